@@ -1,6 +1,6 @@
 #!/usr/bin/env python3
-"""rudderraisin_status at a server whose `proxies` names this machine: what it shows of two users, one's battle and a channel, what it tells
-of a change, how it follows the server's stop and new start, and that it ends in order.
+"""rudderraisin_status at a server whose `proxies` names this machine: what it shows of two users, one's battle and a
+channel, what it tells of a change, how it follows the server's stop and new start, and that it ends in order.
 
     checks/python_page.py [LOBBY_MAIN]
 
@@ -20,11 +20,13 @@ from lobby_server import ADDRESS, PATIENCE, ROOT, Account, Client, Difference, S
 ACCOUNTS = [Account("Anna", 1, 3, "DE"), Account("Bert", 2), Account("Page", 3)]
 SETTINGS = f'proxies = ["{ADDRESS}"]\n'
 OPENED = "OPENBATTLE 0 0 key 8452 8 7 0 9 Recoil\t105.1\tDelta Siege\t<b>Open</b>\tBalanced 1.2\n"
-ANNA = {"name": "Anna", "country": "DE", "rank": 3, "moderator": False, "bot": False, "away": False, "inGame": True, "battleID": 1}
-BERT = {"name": "Bert", "country": "??", "rank": 0, "moderator": False, "bot": False, "away": False, "inGame": False, "battleID": None}
-BATTLE = {"battleID": 1, "title": "<b>Open</b>", "map": "Delta Siege", "gameName": "Balanced 1.2", "engineName": "Recoil",
-          "engineVersion": "105.1", "founder": "Anna", "members": ["Anna"], "spectatorCount": 0, "maxPlayers": 8, "passworded": True,
-          "locked": False, "inGame": True}
+ANNA = {"name": "Anna", "country": "DE", "rank": 3, "moderator": False, "bot": False, "away": False, "inGame": True,
+        "battleID": 1}
+BERT = {"name": "Bert", "country": "??", "rank": 0, "moderator": False, "bot": False, "away": False, "inGame": False,
+        "battleID": None}
+BATTLE = {"battleID": 1, "title": "<b>Open</b>", "map": "Delta Siege", "gameName": "Balanced 1.2",
+          "engineName": "Recoil", "engineVersion": "105.1", "founder": "Anna", "members": ["Anna"],
+          "spectatorCount": 0, "maxPlayers": 8, "passworded": True, "locked": False, "inGame": True}
 
 
 class Page:
@@ -33,8 +35,8 @@ class Page:
     def __init__(self, server_port, room):
         self.port = free_port()
         (room / "password").write_text("password\n")
-        words = ["--user", "Page", "--password-file", str(room / "password"), "--server", f"{ADDRESS}:{server_port}", "--proxy-protocol",
-                 "--listen", f"{ADDRESS}:{self.port}"]
+        words = ["--user", "Page", "--password-file", str(room / "password"), "--server", f"{ADDRESS}:{server_port}",
+                 "--proxy-protocol", "--listen", f"{ADDRESS}:{self.port}"]
         self.told = (room / "told").open("w+")
         self.process = subprocess.Popen([sys.executable, "-m", "rudderraisin.page", *words], stderr=self.told)
 
@@ -120,5 +122,6 @@ def check():
 
 
 if __name__ == "__main__":
-    os.environ["LOBBY_MAIN"] = str(Path(sys.argv[1]).resolve()) if sys.argv[1:] else str(ROOT / "crates/lobby_main/out/lobby_main")
+    built = sys.argv[1:] or [ROOT / "crates/lobby_main/out/lobby_main"]
+    os.environ["LOBBY_MAIN"] = str(Path(built[0]).resolve())
     run(check, [])

@@ -1,12 +1,13 @@
 #!/usr/bin/env python3
-"""Looks at the page of rudderraisin_status in Chromium, by hand: of a lobby without users, of one whose players write what no page should
-take as HTML, and of one with many users and battles; says how long a change takes to show and what the page costs; then stops and starts
-the server and the page's program, and sees that the page says so and comes back. Leaves pictures to look at in a folder.
+"""Looks at the page of rudderraisin_status in Chromium, by hand: of a lobby without users, of one whose players write
+what no page should take as HTML, and of one with many users and battles; says how long a change takes to show and what
+the page costs; then stops and starts the server and the page's program, and sees that the page says so and comes back.
+Leaves pictures to look at in a folder.
 
     checks/status_page.py FOLDER [USERS [BATTLES]]
 
-They are 2000 and 300 if left out. $LOBBY_MAIN names the server's program; the Python package is the repository's, and $LIBLOBBY names its
-library, if that is not bin/liblobby.so. It wants Debian's chromium, and `ulimit -n 8192`."""
+They are 2000 and 300 if left out. $LOBBY_MAIN names the server's program; the Python package is the repository's, and
+$LIBLOBBY names its library, if that is not bin/liblobby.so. It wants Debian's chromium, and `ulimit -n 8192`."""
 import asyncio
 import base64
 import contextlib
@@ -50,8 +51,8 @@ class Browser:
         def take_pipes():
             os.dup2(os.dup(read_end), 3)
             os.dup2(os.dup(write_end), 4)
-        words = ["chromium", "--headless=new", "--no-sandbox", "--disable-gpu", "--remote-debugging-pipe", "--no-first-run",
-                 f"--user-data-dir={room}/browser", "about:blank"]
+        words = ["chromium", "--headless=new", "--no-sandbox", "--disable-gpu", "--remote-debugging-pipe",
+                 "--no-first-run", f"--user-data-dir={room}/browser", "about:blank"]
         self.process = subprocess.Popen(words, preexec_fn=take_pipes, pass_fds=(3, 4, read_end, write_end),
                                         stdout=subprocess.DEVNULL, stderr=subprocess.DEVNULL)
         os.close(read_end)
@@ -92,10 +93,18 @@ class Browser:
 
     def value(self, expression):
         """What an expression comes to in the page; a promise, once it is kept."""
-        return self.ask("Runtime.evaluate", expression=expression, returnByValue=True, awaitPromise=True)["result"].get("value")
+        return self.kept(self.send_value(expression))
+
+    def send_value(self, expression):
+        """Asks for it, and gives the number of the answer."""
+        return self.send("Runtime.evaluate", expression=expression, returnByValue=True, awaitPromise=True)
+
+    def kept(self, number):
+        return self.answer(number)["result"].get("value")
 
     def go(self, url, wanted):
-        """Goes to a page, which may not be there yet, and waits until this is true of it. What is asked of the page before is lost."""
+        """Goes to a page, which may not be there yet, and waits until this is true of it. What is asked of the page
+        before is lost."""
         for turn in range(150):
             if turn % 30 == 0:
                 self.ask("Page.navigate", url=url)
@@ -106,8 +115,8 @@ class Browser:
         raise Difference(f"{url} does not come to {wanted}")
 
     def show(self, size, is_phone=False, scheme="light"):
-        self.ask("Emulation.setDeviceMetricsOverride", width=size[0], height=size[1], deviceScaleFactor=2 if is_phone else 1,
-                 mobile=is_phone)
+        self.ask("Emulation.setDeviceMetricsOverride", width=size[0], height=size[1],
+                 deviceScaleFactor=2 if is_phone else 1, mobile=is_phone)
         self.ask("Emulation.setEmulatedMedia", features=[{"name": "prefers-color-scheme", "value": scheme}])
 
     def picture(self, file):
@@ -121,8 +130,9 @@ class Browser:
 
 def becomes_true(expression):
     """An expression that is kept once another is true, with the time of that in seconds."""
-    return ("new Promise(kept => { const look = () => { if (" + expression + ") { kept((performance.timeOrigin + performance.now()) / 1000); "
-            "return true; } }; if (!look()) { const eye = new MutationObserver(() => { if (look()) eye.disconnect(); }); "
+    return ("new Promise(kept => { const look = () => { if (!(" + expression + ")) return false; "
+            "kept((performance.timeOrigin + performance.now()) / 1000); return true; }; "
+            "if (!look()) { const eye = new MutationObserver(() => { if (look()) eye.disconnect(); }); "
             "eye.observe(document, { subtree: true, childList: true, characterData: true, attributes: true }); } })")
 
 
@@ -182,15 +192,16 @@ class Page:
     def __init__(self, room, port):
         self.port = free_port()
         (room / "password").write_text("password\n")
-        words = [sys.executable, "-m", "rudderraisin.page", "--user", "Page", "--password-file", str(room / "password"), "--server",
-                 f"{ADDRESS}:{port}", "--listen", f"{ADDRESS}:{self.port}", "--title", "Our <b>lobby</b>"]
+        words = [sys.executable, "-m", "rudderraisin.page", "--user", "Page", "--password-file", str(room / "password"),
+                 "--server", f"{ADDRESS}:{port}", "--listen", f"{ADDRESS}:{self.port}", "--title", "Our <b>lobby</b>"]
         library = os.environ.get("LIBLOBBY") or str(ROOT / "bin/liblobby.so")
-        self.how = {"env": {**os.environ, "PYTHONPATH": str(ROOT / "python"), "PYTHONDONTWRITEBYTECODE": "1", "LIBLOBBY": library}}
+        self.environment = {**os.environ, "PYTHONPATH": str(ROOT / "python"), "PYTHONDONTWRITEBYTECODE": "1",
+                            "LIBLOBBY": library}
         self.words = words
         self.start()
 
     def start(self):
-        self.process = subprocess.Popen(self.words, **self.how)
+        self.process = subprocess.Popen(self.words, env=self.environment)
 
     def stop(self):
         self.process.terminate()
@@ -210,7 +221,8 @@ class Page:
 
 
 def accounts(users):
-    return [Account("Page", 0)] + [Account(f"user{number}", number, number % 8, ("DE", "FR", "??")[number % 3]) for number in range(1, users + 1)]
+    countries = ("DE", "FR", "??")
+    return [Account("Page", 0), *(Account(f"user{it}", it, it % 8, countries[it % 3]) for it in range(1, users + 1))]
 
 
 def pictures(browser, folder, name):
@@ -267,17 +279,17 @@ def time_changes(browser, crowd, users):
     took = []
     for number in range(users - 20, users):
         name = f"user{number + 1}"
-        wanted = f"[...document.querySelectorAll('#users li')].some(it => it.firstChild.textContent === '{name}' && it.textContent.includes('away'))"
-        number_of = browser.send("Runtime.evaluate", expression=becomes_true(wanted), returnByValue=True, awaitPromise=True)
+        found = f"[...document.querySelectorAll('#users li')].find(it => it.firstChild.textContent === '{name}')"
+        number_of = browser.send_value(becomes_true(f"{found}.textContent.includes('away')"))
         time.sleep(1)
         begun = time.time()
         crowd.say(number, "MYSTATUS 2\n")
-        took.append(browser.answer(number_of)["result"]["value"] - begun)
+        took.append(browser.kept(number_of) - begun)
     return took
 
 
 def measure(browser, crowd, page, users):
-    """Says how long a change takes to show, and what the page costs while nothing changes and while users set their status."""
+    """Says how long a change takes to show, and what the page costs while users set their status."""
     took = sorted(time_changes(browser, crowd, users))
     print(f"a change shows behind {statistics.median(took) * 1000:.0f} ms, {took[-1] * 1000:.0f} at most of {len(took)}")
     whole, packed = page.get("/status.json"), page.get("/status.json", ("Accept-Encoding", "gzip"))
@@ -291,8 +303,8 @@ def measure(browser, crowd, page, users):
             time.sleep(max(0.0, begun + turn / max(rate, 1) - time.monotonic()))
         spent, memory = page.cost()
         seconds = time.monotonic() - begun
-        print(f"{turn * bool(rate) / seconds:.0f} statuses a second change: {(spent - before) / seconds * 100:.1f} percent of a processor, "
-              f"{memory:.0f} MB")
+        print(f"{turn * bool(rate) / seconds:.0f} statuses a second change: "
+              f"{(spent - before) / seconds * 100:.1f} percent of a processor, {memory:.0f} MB")
 
 
 def state(browser, wanted):

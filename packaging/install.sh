@@ -8,6 +8,7 @@ prefix=${PREFIX:-/usr/local}
 bin=$prefix/bin
 library=$prefix/lib/rudderraisin
 share=$prefix/share/rudderraisin
+packages=$prefix/lib/python3/dist-packages
 configuration=${SYSCONFDIR:-$prefix/etc}/rudderraisin
 documents=$prefix/share/doc/rudderraisin
 to=${DESTDIR:-}
@@ -75,32 +76,32 @@ gather_gateway() {
     fi
 }
 
-# gather_python : lays out the C library, the Python package and the program of the page, or takes all that belongs to them away again
-# where no library was built.
+# gather_python SHARED STATIC : lays out the C library, the Python package and the program of the page, or takes all that belongs to them
+# away again where no library was built.
 gather_python() {
-    local file libraries=$prefix/lib packages=$prefix/lib/python3/dist-packages path=
-    if [ ! -e "$root/bin/liblobby.so" ]; then
+    local file version libraries=$prefix/lib python=/usr/bin/python3 path=
+    if [ ! -e "$1" ]; then
         echo "there is no bin/liblobby.so, which make library builds: the library and the Python package are left out" >&2
         find "$room/all" \( -name 'rudderraisin[-_]status*' -o -name status.conf \) -delete
         return
     fi
     # Debian has its libraries in a folder of the machine's kind. Elsewhere the package finds its own by a link beside it.
     if [ "$prefix" = /usr ] && [ -d /usr/lib/x86_64-linux-gnu ]; then libraries=$prefix/lib/x86_64-linux-gnu; fi
-    put 644 "$root/bin/liblobby.so" "$libraries/liblobby.so.0"
-    put 644 "$root/bin/liblobby.a" "$libraries/liblobby.a"
+    put 644 "$1" "$libraries/liblobby.so.0"
+    put 644 "$2" "$libraries/liblobby.a"
     ln -s liblobby.so.0 "$room/all$libraries/liblobby.so"
     put 644 "$root/include/lobby.h" "$prefix/include/lobby.h"
-    sed "s|@PREFIX@|$prefix|; s|@LIBRARIES@|$libraries|; s|@VERSION@|$(cd "$root/packaging" && python3 -Bc 'import deb; print(deb.version())')|" \
-        "$root/packaging/liblobby.pc" > "$room/liblobby.pc"
+    version=$(cd "$root/packaging" && python3 -Bc 'import deb; print(deb.version())')
+    sed "s|@PREFIX@|$prefix|; s|@LIBRARIES@|$libraries|; s|@VERSION@|$version|" "$root/packaging/liblobby.pc" > "$room/liblobby.pc"
     put 644 "$room/liblobby.pc" "$libraries/pkgconfig/liblobby.pc"
     (cd "$root/python" && find rudderraisin -type f ! -name '*.pyc' ! -name '*.so') | while read -r file; do
         put 644 "$root/python/$file" "$packages/$file"
     done
     if [ "$prefix" != /usr ]; then
         ln -s ../../../liblobby.so.0 "$room/all$packages/rudderraisin/liblobby.so"
-        path="sys.path.insert(0, \"$packages\")"
+        python='/usr/bin/env python3' path="import sys; sys.path.insert(0, \"$packages\")"
     fi
-    printf '#!/usr/bin/python3\nimport sys\n\n%s\nfrom rudderraisin.page.main import main\n\nmain()\n' "$path" | cat -s > "$room/status"
+    printf '#!%s\n%s\nfrom rudderraisin.page.main import main\n\nmain()\n' "$python" "$path" | sed '/^$/d' > "$room/status"
     put 755 "$room/status" "$bin/rudderraisin_status"
 }
 
@@ -126,7 +127,7 @@ install)
         put 755 "$program" "$bin/$name"
     done
     gather_gateway
-    gather_python
+    gather_python "$root/bin/liblobby.so" "$root/bin/liblobby.a"
     (cd "$room/all" && find . ! -type d | sort) | while read -r file; do
         place=${file#.}
         case $place in "$configuration"/*) if is_there "$place"; then echo "$to$place stays as it is"; continue; fi ;; esac
@@ -136,7 +137,7 @@ install)
     done
     ;;
 uninstall)
-    gather_python
+    gather_python /dev/null /dev/null
     for name in $programs $gateway; do rm -f "$to$bin/$name"; done
     (cd "$room/all" && find . ! -type d | sort) | while read -r file; do
         place=${file#.}
@@ -145,7 +146,11 @@ uninstall)
         rm -f "$to$place"
     done
     "$root/packaging/pages.py" | while read -r page; do rm -f "$to$prefix/share/man/man${page##*.}/$page"; done
-    for folder in "$configuration" "$documents/examples" "$documents" "$share/record_tool" "$share" "$library"; do rmdir "$to$folder" 2> /dev/null || true; done
+    find "$to$packages/rudderraisin" -name __pycache__ -prune -exec rm -rf {} + 2> /dev/null || true
+    for folder in "$packages/rudderraisin/page" "$packages/rudderraisin" "$configuration" "$documents/examples" "$documents" \
+        "$share/record_tool" "$share" "$library"; do
+        rmdir "$to$folder" 2> /dev/null || true
+    done
     ;;
 *) echo "usage: install.sh install|uninstall" >&2; exit 1 ;;
 esac

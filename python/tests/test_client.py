@@ -69,7 +69,7 @@ class Answers(Served):
             if await reader.readuntil(b"\n") == b"PROXY UNKNOWN\r\n":
                 writer.write(GREETING)
             await quiet(reader, writer)
-        client = await self.served(peer, b"", proxied=True)
+        client = await soon(self.served(peer, b"", proxied=True))
         self.assertEqual(client.greeting, reply.TASSERVER("0.38", "*", 8201, 0))
 
     async def test_no_greeting(self) -> None:

@@ -101,7 +101,8 @@ class Texts(unittest.TestCase):
                 line = b"BATTLEOPENED 8 0 0 Cleo 10.0.0.3 1 2 0 0 0 " + b"\t".join([said] * 5) + b"\n"
                 info = b"UPDATEBATTLEINFO 8 0 0 0 " + said + b"\n"
                 it = picture(SAID + line + info)
-                row = {name: it.battles[8][name] for name in ("title", "map", "gameName", "engineName", "engineVersion")}
+                names = ("title", "map", "gameName", "engineName", "engineVersion")
+                row = {name: it.battles[8][name] for name in names}
                 self.assertEqual(row, dict.fromkeys(row, read))
                 whole = shown.document("a-1", it)
                 self.assertEqual(json.loads(whole.decode("ascii"))["battles"][1]["title"], read)
@@ -239,8 +240,8 @@ class Page(unittest.TestCase):
 
     def test_no_text_becomes_html(self) -> None:
         script = (self.HERE / "page.js").read_text(encoding="utf-8")
-        makers = r"innerHTML|outerHTML|insertAdjacentHTML|document\.write|DOMParser|createContextualFragment|\beval\b|" \
-                 r"\bFunction\(|setAttribute|srcdoc|javascript:|\.(href|src) ="
+        makers = r"innerHTML|outerHTML|insertAdjacentHTML|document\.write|DOMParser|createContextualFragment|" \
+                 r"\beval\b|\bFunction\(|setAttribute|srcdoc|javascript:|\.(href|src) ="
         self.assertIsNone(re.search(makers, script))
         self.assertIn("textContent", script)
 

@@ -204,6 +204,7 @@ class Status(Served):
 
     async def asyncSetUp(self) -> None:
         for module, name, value in ((feed, "PAUSE", 0.0), (observer, "WAITS", (0.01, 0.05)), (observer, "EACH", 0.01),
+                                    (observer, "PARTING", 0.2),
                                     (client, "PATIENCE", 0.1)):
             patch = mock.patch.object(module, name, value)
             patch.start()
@@ -227,12 +228,7 @@ class Status(Served):
         self.status = main.Status(options, "password")
         await self.serve(self.status.web)
         tasks = [asyncio.ensure_future(it) for it in (self.status.observer.run(), self.status.feed.run(lambda: True))]
-
-        async def end() -> None:
-            for it in tasks:
-                it.cancel()
-            await asyncio.gather(*tasks, return_exceptions=True)
-        self.addAsyncCleanup(end)
+        self.addAsyncCleanup(observer.end, tasks)
 
     async def shown(self) -> dict[str, Any]:
         return dict(json.loads((await self.get("/status.json"))[2]))
@@ -342,6 +338,22 @@ class Status(Served):
             await self.until(lambda: self.status.observer._lobby["reason"] == "the server does not answer")
 
 
+class Ending(unittest.IsolatedAsyncioTestCase):
+    async def test_lost_cancellation(self) -> None:
+        """One who does not hear it at first is told again."""
+        async def deaf() -> None:
+            with contextlib.suppress(asyncio.CancelledError):
+                await asyncio.sleep(100)
+            await asyncio.sleep(100)
+        with mock.patch.object(observer, "PARTING", 0.01):
+            with self.assertRaisesRegex(ValueError, "over"):
+                await soon(observer.first_end(deaf(), fail()))
+
+
+async def fail() -> None:
+    raise ValueError("over")
+
+
 class Arguments(unittest.TestCase):
     def test_password(self) -> None:
         with tempfile.TemporaryDirectory() as room:
@@ -360,7 +372,7 @@ class Arguments(unittest.TestCase):
             self.assertRaises(argparse.ArgumentTypeError, main.place, text)
 
     def test_manager(self) -> None:
-        """systemd hears that the program is ready, at a socket of a file or of a name, and nobody where none is given."""
+        """systemd hears that the program is ready, at a socket of a file or of a name; none may be given."""
         with tempfile.TemporaryDirectory() as room:
             name = f"@{room}"
             for address, bound in ((f"{room}/notify", f"{room}/notify"), (name, "\0" + name[1:])):

@@ -7,7 +7,7 @@ import random
 import sys
 import time
 from collections import Counter
-from typing import Callable, Mapping
+from typing import Callable, Iterable, Mapping
 
 from .. import reply, request
 from ..client import Client, Denied
@@ -15,7 +15,8 @@ from ..errors import LobbyError
 from . import shown
 
 PATIENCE = 30.0         # seconds that an answer of the server may take
-EACH = 5.0              # seconds from one look at the channels to the next, which shows as well that the server is there
+EACH = 5.0              # seconds between two looks at the channels, which show as well that the server is there
+PARTING = 2.0           # seconds that the end of a connection may take where the program ends
 WAITS = (1.0, 30.0)     # seconds to the next try behind the first end of a connection, and at most
 STEADY = 60.0           # a connection that lasted so many seconds makes the next wait the first one again
 
@@ -126,6 +127,14 @@ async def first_end(*calls: object) -> None:
         for it in done:
             it.result()
     finally:
-        for it in tasks:
+        await end(tasks)
+
+
+async def end(tasks: Iterable[asyncio.Future[object]]) -> None:
+    """Ends these, whatever they come to. Before Python 3.12 `wait_for` may lose a cancellation: it is said again."""
+    left = set(tasks)
+    while left:
+        for it in left:
             it.cancel()
-        await asyncio.gather(*tasks, return_exceptions=True)
+        done, left = await asyncio.wait(left, timeout=PARTING)
+        await asyncio.gather(*done, return_exceptions=True)

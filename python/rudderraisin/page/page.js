@@ -99,7 +99,8 @@ function drawTable(name, wanted) {
 function drawState() {
   const since = () => new Date(lobby.since * 1000).toLocaleTimeString([], { hour: "2-digit", minute: "2-digit" });
   const isLost = !isReached || !lobby.connected;
-  const said = !lobby ? "Connecting" : !isReached ? "This page is not renewed: its server does not answer. It tries again."
+  const said = !lobby ? "Connecting"
+    : !isReached ? "This page is not renewed: its server does not answer. It tries again."
     : !lobby.connected ? `The lobby has been away since ${since()} (${lobby.reason}). This page waits for it.`
     : source && source.readyState === 1 ? "Live" : "Renewed every 15 seconds";
   const state = document.getElementById("state");

@@ -1,4 +1,4 @@
-"""What the page shows: the rows of its tables, made of a view, the differences of two pictures, and Prometheus's text."""
+"""What the page shows: rows of its tables, made of a view, the differences of two pictures, and Prometheus's text."""
 from __future__ import annotations
 
 import json
@@ -106,7 +106,7 @@ def lobby_numbers(it: Picture) -> Iterator[Tuple[str, str, str, Mapping[str, flo
     yield "rudderraisin_battle_members", "gauge", "Users who are in a battle.", {"": members}
     yield "rudderraisin_channels", "gauge", "Channels.", {"": len(it.channels)}
     joined = sum(channel["userCount"] for channel in it.channels.values())
-    yield "rudderraisin_channel_users", "gauge", "Users of all channels, each once for each of its channels.", {"": joined}
+    yield "rudderraisin_channel_users", "gauge", "Users in channels, once for each of their channels.", {"": joined}
 
 
 def prometheus(numbers: Iterator[Tuple[str, str, str, Mapping[str, float]]]) -> bytes:
