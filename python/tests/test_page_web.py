@@ -40,7 +40,7 @@ class Served(unittest.IsolatedAsyncioTestCase):
         await self.serve(self.web)
 
     async def serve(self, served: Web) -> None:
-        server = await served.open("127.0.0.1", 0)
+        self.server = server = await served.open("127.0.0.1", 0)
         self.addCleanup(server.close)
         self.port = server.sockets[0].getsockname()[1]
 
@@ -138,6 +138,25 @@ class Bounds(Served):
             writer.write(GET % (b"/huge", b""))
             await self.until(lambda: self.web.counts["requests"] == 1)
             await self.until(lambda: self.web._asking == 0)
+
+    async def test_no_rest_waits_without_a_bound(self) -> None:
+        """Of an answer that is not taken nothing is there any more later, also of one that waits within the process."""
+        body = b"x" * 50_000    # more than both sockets have room for
+        with mock.patch.object(web, "TAKING", 0.05), mock.patch.dict(PAGES, {"/some": Answer(body)}), \
+                socket.socket() as slow:
+            self.server.sockets[0].setsockopt(socket.SOL_SOCKET, socket.SO_SNDBUF, 4_096)
+            slow.setsockopt(socket.SOL_SOCKET, socket.SO_RCVBUF, 4_096)
+            slow.setblocking(False)
+            loop = asyncio.get_running_loop()
+            await loop.sock_connect(slow, ("127.0.0.1", self.port))
+            await loop.sock_sendall(slow, GET % (b"/some", b""))
+            await self.until(lambda: self.web.counts["requests"] == 1 and self.web._asking == 0)
+            heard = piece = await soon(loop.sock_recv(slow, 65_536))
+            with contextlib.suppress(ConnectionError):
+                while piece:
+                    piece = await soon(loop.sock_recv(slow, 65_536))
+                    heard += piece
+        self.assertLess(len(heard), len(body))
 
     async def test_too_many_ask(self) -> None:
         with mock.patch.object(web, "REQUESTS", 3):
