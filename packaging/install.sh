@@ -30,7 +30,6 @@ gather() {
     put 644 "$room/lobby.toml" "$configuration/lobby.toml"
     put 640 "$room/accounts.toml" "$configuration/accounts.toml"
     put 644 "$root/packaging/gateway.conf" "$configuration/gateway.conf"
-    put 644 "$root/packaging/status.conf" "$configuration/status.conf"
     for file in "$root"/packaging/*.service "$root"/packaging/*.timer; do
         sed "s|@BIN@|$bin|g; s|@LIBRARY@|$library|g; s|@CONFIGURATION@|$configuration|g" "$file" > "$room/unit"
         put 644 "$room/unit" "$prefix/lib/systemd/system/${file##*/}"
@@ -82,11 +81,12 @@ gather_python() {
     local file version libraries=$prefix/lib python=/usr/bin/python3 path=
     if [ ! -e "$1" ]; then
         echo "there is no bin/liblobby.so, which make library builds: the library and the Python package are left out" >&2
-        find "$room/all" \( -name 'rudderraisin[-_]status*' -o -name status.conf \) -delete
+        find "$room/all" -name 'rudderraisin[-_]status*' -delete
         return
     fi
     # Debian has its libraries in a folder of the machine's kind. Elsewhere the package finds its own by a link beside it.
     if [ "$prefix" = /usr ] && [ -d /usr/lib/x86_64-linux-gnu ]; then libraries=$prefix/lib/x86_64-linux-gnu; fi
+    put 644 "$root/packaging/status.conf" "$configuration/status.conf"
     put 644 "$1" "$libraries/liblobby.so.0"
     put 644 "$2" "$libraries/liblobby.a"
     ln -s liblobby.so.0 "$room/all$libraries/liblobby.so"
