@@ -46,7 +46,8 @@ PAGES = {
     "rudderraisin_gateway.1": ("lets SpringLobby use a lobby", [(GATEWAY, "A gateway for SpringLobby")], GATEWAY_FILES),
     "rudderraisin_gatewayctl.1": ("tells a gateway what to do", [(GATEWAY, "Control")], GATEWAY_FILES[:1]),
     "rudderraisin_status.1": ("serves a page of a lobby", [(STATUS, "A page of the lobby")],
-                              [(f"{CONFIGURATION}/status.conf", "the settings of the page"), SETTINGS]),
+                              [(f"{CONFIGURATION}/status.conf", "the options of the service"),
+                               (f"{CONFIGURATION}/status.password", "the password, for root alone")]),
 }
 # A recipe of the repository, which who reads an installed page has not.
 RECIPE = re.compile(r"`make [a-z]|\$ make ")
