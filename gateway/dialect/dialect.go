@@ -66,6 +66,7 @@ type Dialect struct {
 	next    []window // what begins with each PONG of the gateway's own that is still to come
 	before  int      // PONGs of the client's own with the gateway's id that come before those
 	behind  int      // and behind them
+	untold  bool     // the last answer to those is known, and not yet sent
 	isIn    bool
 	hasLeft bool // the client has said EXIT
 }
@@ -280,7 +281,7 @@ func (d *Dialect) leave(r *request) Verdict {
 }
 
 // unsettled says that the server has still to answer what the gateway put in.
-func (d *Dialect) unsettled() bool { return len(d.next) > 0 }
+func (d *Dialect) unsettled() bool { return len(d.next) > 0 || d.untold }
 
 // say looks for one who waits and asks no more. SpringLobby says nothing in the room of a battle that it is not in.
 func (d *Dialect) say(r *request, out *Out) Verdict {

@@ -56,6 +56,7 @@ func (t talk) server(line string, wanted ...string) {
 		got = lines(out.There)
 	}
 	t.compare(line, got, wanted)
+	t.Told()
 }
 
 func (t talk) compare(line string, got, wanted []string) {
@@ -308,7 +309,12 @@ func TestHeldLines(t *testing.T) {
 	}
 	d.server(pong)
 	d.client(open, "hold")
-	d.server(pong, waitingFor)
+	var out Out
+	if d.FromServer([]byte(pong), &out); string(out.There) != waitingFor+"\n" {
+		t.Errorf("it is told %q", out.There)
+	}
+	d.client("LEAVEBATTLE", "hold") // until that is sent
+	d.Told()
 	select {
 	case <-d.Wake:
 	default:

@@ -124,10 +124,20 @@ func (d *Dialect) step() (told bool) {
 	}
 	if len(d.next) == 0 {
 		d.next, d.before, d.behind = nil, d.behind, 0
+		d.untold = true
+	}
+	return told
+}
+
+// Told says that the client was sent what FromServer gave. Lines that were held for an answer go on behind it.
+func (d *Dialect) Told() {
+	d.mutex.Lock()
+	defer d.mutex.Unlock()
+	if d.untold {
+		d.untold = false
 		select {
 		case d.Wake <- struct{}{}:
 		default:
 		}
 	}
-	return told
 }

@@ -165,7 +165,7 @@ func (s *session) upEnded(err error) {
 
 func (s *session) down(greeting []byte) {
 	pump := relay.Pump{From: &primed{greeting, s.server}, Turn: s.dialect.FromServer, Onward: s.out, Done: s.done,
-		Counts: &s.house.metrics.Down}
+		OnLine: s.dialect.Told, Counts: &s.house.metrics.Down}
 	err := pump.Run()
 	var write relay.WriteError
 	switch {
