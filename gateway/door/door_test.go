@@ -118,7 +118,7 @@ func TestInjectionBehindSTLS(t *testing.T) {
 // Six forms of a client that takes its time. The first four never have a place at the server.
 func TestLoris(t *testing.T) {
 	t.Parallel()
-	g := open(t, lobby, "-handshake", "400ms", "-login", "900ms", "-idle", "1500ms")
+	g := open(t, lobby, "-handshake", "1500ms", "-login", "3s", "-idle", "4s")
 	drip := func(c *client, text string) {
 		for i := range text {
 			time.Sleep(30 * time.Millisecond)
@@ -144,7 +144,7 @@ func TestLoris(t *testing.T) {
 			go drip(c, strings.Repeat("PING\n", 40))
 			c.reads(greeting)
 			rest, _ := io.ReadAll(c.lines)
-			if !strings.HasSuffix(string(rest), "DENIED Log in within 900ms\n") {
+			if !strings.HasSuffix(string(rest), "DENIED Log in within 3s\n") {
 				c.Errorf("it is told %q", rest)
 			}
 		},
@@ -202,7 +202,7 @@ func gush(put chan<- int) func(net.Conn, *bufio.Reader) {
 func TestClientThatTakesNothing(t *testing.T) {
 	t.Parallel()
 	put := make(chan int, 1)
-	g := open(t, gush(put), "-patience", "700ms")
+	g := open(t, gush(put), "-patience", "1500ms")
 	slow := g.shake(STLS)
 	slow.raw.SetReadBuffer(65536)
 	slow.says("LOGIN Slow w 0 * x\n")

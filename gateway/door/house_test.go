@@ -363,7 +363,7 @@ func TestReload(t *testing.T) {
 }
 
 func TestMetrics(t *testing.T) {
-	g := open(t, lobby, "-handshake", "200ms")
+	g := open(t, lobby, "-handshake", "1500ms")
 	c := g.login(STLS, "Anna")
 	c.says("PING\nPING\n")
 	c.reads("PONG\nPONG\n")
