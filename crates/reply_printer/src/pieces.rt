@@ -10,7 +10,7 @@ ghost use Rattle.reply_kinds.specs.Kinds.{words_text, pair_text, pairs_text, opt
 ghost use Rattle.reply_kinds.specs.Replies.{id_text, word_of};
 
 use itoa::{Buffer, Integer};
-use line_words::{NameBuf, Pair, SentenceBuf, Text, WordBuf, write_number};
+use line_words::{NameBuf, Pair, SentenceBuf, Text, WordBuf};
 use reply_kinds::CommandWord;
 use std::alloc::AllocError;
 
@@ -50,9 +50,7 @@ pub fn put_wide(out: &mut Vec<u8>, n: &i64) -> Result<(), AllocError>
     ensures ok { IfOk result (λ _. out.new.items ≡ out.old.items ++ (32 ∷ signed_decimal n.now)) }
     ensures kept { Keeps out.old.items out.new.items }
 {
-    let mut digits = [0u8; 20];
-    let count = write_number(*n, &mut digits);
-    put_behind(out, b' ', &digits[..count])
+    put_decimal(out, b' ', *n)
 }
 
 pub fn put_words(out: &mut Vec<u8>, words: &[WordBuf]) -> Result<(), AllocError>

@@ -12,7 +12,8 @@ use crate::arguments::{LoginFlags, Natural};
 use crate::error::PrintError;
 use crate::faults::fault_of;
 use crate::table::{argument, print_by_row, row};
-use command_grammar::{Command, LINE_LIMIT, Request, with_commands};
+use command_grammar::{Command, Request, with_commands};
+use command_reader::LINE_LIMIT;
 use reply_printer::pieces::{put_end, put_id, whole};
 use std::alloc::AllocError;
 

@@ -3,8 +3,8 @@ use Rattle.std.proofs.lemmas.Result.{err_from_is_err_and}
 use Rattle.command_grammar.specs.declared.command.Request.{Request}
 use Rattle.command_grammar.specs.Reads.{Reads}
 use Rattle.command_grammar.proofs.Lines.{request_read, request_only}
-use Rattle.command_grammar.proofs.Whole.{read_as, refused_as}
-use Rattle.command_grammar.proofs.reading.read_request.Goals as goal
+use Rattle.command_reader.proofs.Whole.{read_as, refused_as}
+use Rattle.command_reader.proofs.reading.read_request.Goals as goal
 
 pub returns-in_err-command-clause-refused : goal.returns-in_err-command-clause-refused
 returns-in_err-command-clause-refused c =

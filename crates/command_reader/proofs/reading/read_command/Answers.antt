@@ -2,7 +2,7 @@ use Rattle.std.proofs.Common.{List, ℕ, subst, ◌∙◌, sym}
 use Rattle.std.specs.Prelude.{IsTrue}
 use Rattle.line_words.specs.Bytes.{is_text}
 use Rattle.command_grammar.proofs.Slices.{text_behind}
-use Rattle.command_grammar.proofs.reading.read_command.Goals as goal
+use Rattle.command_reader.proofs.reading.read_command.Goals as goal
 
 pub read_arguments-requires : goal.read_arguments-requires
 read_arguments-requires c =

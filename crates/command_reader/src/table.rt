@@ -1,6 +1,6 @@
 //! Reading by the table of commands.
 //!
-//! A word is looked for in one part of the table after another, as `specs/Table.antt` has
+//! A word is looked for in one part of the table after another, as `specs/Table.antt` of `command_grammar` has
 //! them. Each part is a function, since one over all rows is proved slower.
 
 ghost use Rattle.std.specs.Prelude.{◌≡◌, IsTrue};
@@ -9,8 +9,8 @@ ghost use Rattle.command_grammar.specs.Forms.{entry_named, is_same};
 ghost use Rattle.command_grammar.specs.Readers.{Gives, known_at};
 ghost use Rattle.command_grammar.specs.Table.{entries, battle_entries, room_entries, host_entries};
 
-use crate::rows::{name_and_number, name_and_text, one_name, one_text, some_words};
-use crate::{Command, ReadError, ReadFault, forms, with_commands};
+use command_grammar::rows::{name_and_number, name_and_text, one_name, one_text, some_words};
+use command_grammar::{Command, ReadError, ReadFault, forms, with_commands};
 use std::alloc::Global;
 
 /// Reads by the rows of one part, and what stands in none of them by the next part.
@@ -68,7 +68,7 @@ macro_rules! read_row {
 
 /// The command of a word, byte for byte, and of the arguments behind it. Users and channels, the
 /// frequent ones first, since they are tried in this order.
-#[tactic(auto, unfolding(crate::specs::Table::entries))]
+#[tactic(auto, unfolding(command_grammar::specs::Table::entries))]
 pub(crate) fn read_arguments(alloc: Global, word: &[u8], rest: &[u8]) -> Result<Command, ReadError>
     requires { IsTrue (is_text rest.now) }
     ensures { Gives result (known_at (entry_named entries word.now) rest.now) }
@@ -77,7 +77,7 @@ pub(crate) fn read_arguments(alloc: Global, word: &[u8], rest: &[u8]) -> Result<
 }
 
 /// Battles.
-#[tactic(auto, unfolding(crate::specs::Table::battle_entries))]
+#[tactic(auto, unfolding(command_grammar::specs::Table::battle_entries))]
 fn of_battle(alloc: Global, word: &[u8], rest: &[u8]) -> Result<Command, ReadError>
     requires { IsTrue (is_text rest.now) }
     ensures { Gives result (known_at (entry_named battle_entries word.now) rest.now) }
@@ -86,7 +86,7 @@ fn of_battle(alloc: Global, word: &[u8], rest: &[u8]) -> Result<Command, ReadErr
 }
 
 /// Bots, start rectangles, script tags and units.
-#[tactic(auto, unfolding(crate::specs::Table::room_entries))]
+#[tactic(auto, unfolding(command_grammar::specs::Table::room_entries))]
 fn of_room(alloc: Global, word: &[u8], rest: &[u8]) -> Result<Command, ReadError>
     requires { IsTrue (is_text rest.now) }
     ensures { Gives result (known_at (entry_named room_entries word.now) rest.now) }
@@ -95,7 +95,7 @@ fn of_room(alloc: Global, word: &[u8], rest: &[u8]) -> Result<Command, ReadError
 }
 
 /// What a founder does to players.
-#[tactic(auto, unfolding(crate::specs::Table::host_entries))]
+#[tactic(auto, unfolding(command_grammar::specs::Table::host_entries))]
 fn of_host(alloc: Global, word: &[u8], rest: &[u8]) -> Result<Command, ReadError>
     requires { IsTrue (is_text rest.now) }
     ensures { Gives result (known_at (entry_named host_entries word.now) rest.now) }

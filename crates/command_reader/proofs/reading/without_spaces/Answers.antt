@@ -1,7 +1,7 @@
 use Rattle.std.proofs.Common.{List, ℕ, subst, ◌∙◌}
 use Rattle.line_words.specs.Words.{SkipsSpaces}
 use Rattle.command_grammar.proofs.Cuts.{skipped_to}
-use Rattle.command_grammar.proofs.reading.without_spaces.Goals as goal
+use Rattle.command_reader.proofs.reading.without_spaces.Goals as goal
 
 pub returns : goal.returns
 returns c =

@@ -8,7 +8,7 @@ ghost use Rattle.command_grammar.specs.Reading.{text_of, id_of, with_id, numbere
 ghost use Rattle.command_grammar.specs.Reads.{Reads};
 
 use crate::table::read_arguments;
-use crate::{Command, ReadError, ReadFault, Request};
+use command_grammar::{Command, ReadError, ReadFault, Request};
 use line_words::{Words, is_text, read_number, split_at_byte};
 use std::alloc::{AllocError, Global};
 
@@ -48,7 +48,7 @@ fn without_spaces(line: &[u8]) -> &[u8]
 }
 
 /// The id, if there is one, and the text behind it.
-#[tactic(auto, unfolding(crate::specs::Reading::numbered))]
+#[tactic(auto, unfolding(command_grammar::specs::Reading::numbered))]
 fn read_id(line: &[u8]) -> (Option<u32>, &[u8])
     ensures { (result.0, result.1.now) ≡ numbered line.now }
 {
@@ -103,7 +103,7 @@ fn read_text(alloc: Global, text: &[u8]) -> Result<Command, AllocError>
 }
 
 /// The command word, and its arguments behind it.
-#[tactic(auto, unfolding(crate::specs::Reading::text_of))]
+#[tactic(auto, unfolding(command_grammar::specs::Reading::text_of))]
 fn read_command(alloc: Global, text: &[u8]) -> Result<Command, ReadError>
     ensures { Gives result (text_of text.now) }
 {

@@ -1,5 +1,5 @@
 use Rattle.command_grammar.proofs.Bounds.{request_keeps, request_id_keeps}
-use Rattle.command_grammar.proofs.laws.keeps_kinds.Goals as goal
+use Rattle.command_reader.proofs.laws.keeps_kinds.Goals as goal
 
 pub returns-clause-id : goal.returns-clause-id
 returns-clause-id c = request_id_keeps
