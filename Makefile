@@ -47,7 +47,7 @@ python: library ## makes the wheel of the Python package, with the C library in 
 	@rm -f out/rudderraisin-*.whl
 	@echo "out/$$(python/build_wheel.py bin/liblobby.so out) is made"
 
-test: ## the gate: proves everything from nothing, tries wrong bodies, runs all tests
+test: ## the gate: proves what no run here proved before, tries wrong bodies, runs all tests
 	@tools/gate.py
 
 unit: ## runs the tests of what you changed, without a proof (CRATE=lobby_tests)
