@@ -1,4 +1,3 @@
 pub mod Channels
 pub mod Book
 pub mod Places
-pub mod Kept

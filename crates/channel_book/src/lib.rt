@@ -8,8 +8,6 @@
 mod book;
 mod error;
 mod lists;
-mod lone;
-mod many;
 mod members;
 mod places;
 

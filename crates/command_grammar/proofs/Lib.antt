@@ -10,4 +10,3 @@ pub mod ArgumentBounds
 pub mod Lines
 pub mod Examples
 pub mod Bounds
-pub mod Whole

@@ -1,5 +1,4 @@
 pub mod OwnChannels
-pub mod Alone
 pub mod Spoken
 pub mod Events
 pub mod Leaves

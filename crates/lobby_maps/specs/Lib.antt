@@ -1,6 +1,5 @@
 pub mod Fit
 pub mod Shown
-pub mod Amounts
 pub mod Dirty
 pub mod Calls
 pub mod Changes

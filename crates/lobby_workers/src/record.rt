@@ -7,7 +7,6 @@
 mod end;
 mod files;
 mod lines;
-mod place;
 mod queue;
 mod recorder;
 

@@ -1,24 +1,23 @@
 //! The gate through which workers tell operators.
 
 use crate::log_queue::LogQueue;
-use lobby_lock::{Made, Pass};
+use lobby_model::MadeEvent;
 use server_log::Happening;
+use std::sync::Wait;
 use worker_loop::Gate;
 
 /// A gate that also puts what operators are told.
 #[derive(Drop)]
-pub struct Reporter<'a, 'g, G> {
+pub struct Reporter<'a, 'g, R: Wait, G> {
+    /// To put with.
+    pub rt: &'a R,
     /// What is told what workers do.
     pub gate: &'g G,
     /// Where it puts.
     pub log: &'a LogQueue,
 }
 
-impl<G: Gate> Gate for Reporter<'_, '_, G> {
-    ghost wants = { λ reporter. G.wants reporter.gate.now };
-
-    ghost handed = { λ reporter. G.handed reporter.gate.now };
-
+impl<R: Wait, G: Gate> Gate for Reporter<'_, '_, R, G> {
     fn before_take(&self, worker: u8) {
         self.gate.before_take(worker);
     }
@@ -27,8 +26,8 @@ impl<G: Gate> Gate for Reporter<'_, '_, G> {
         self.gate.wants_events()
     }
 
-    fn made(&self, made: Made) -> Pass {
-        self.gate.made(made)
+    fn made(&self, worker: u8, events: &[MadeEvent]) {
+        self.gate.made(worker, events);
     }
 
     fn after_write(&self, worker: u8, bytes: &[u8]) {
@@ -44,10 +43,10 @@ impl<G: Gate> Gate for Reporter<'_, '_, G> {
     }
 
     fn listening(&self) {
-        self.log.put_started();
+        self.log.put_started(self.rt);
     }
 
     fn tell(&self, happening: Happening) {
-        self.log.put(happening);
+        self.log.put(self.rt, happening);
     }
 }

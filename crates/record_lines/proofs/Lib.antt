@@ -5,7 +5,5 @@ pub mod Masked
 pub mod Homed
 pub mod Recorded
 pub mod Shorter
-pub mod PlainLines
 pub mod Entered
-pub mod Replayed
 pub mod Headed

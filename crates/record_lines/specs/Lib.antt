@@ -5,4 +5,3 @@ pub mod Masks
 pub mod Entries
 pub mod Head
 pub mod Played
-pub mod Schedules

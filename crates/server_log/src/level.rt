@@ -44,7 +44,6 @@ impl Happening {
             | Happening::Denied { .. }
             | Happening::Refused(_)
             | Happening::MemoryRefused { .. }
-            | Happening::Reserve(_)
             | Happening::Stopped { .. }
             | Happening::Lost(_) => true,
         }
