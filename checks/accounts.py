@@ -21,7 +21,7 @@ import termios
 import time
 from pathlib import Path
 
-from lobby_server import ADDRESS, GREETING, PATIENCE, ROOT, free_port
+from lobby_server import ADDRESS, GREETING, PATIENCE, ROOT, free_port, use_programs
 
 TOOL = ROOT / "operator/lobby_account.py"
 EXAMPLE = (ROOT / "examples/accounts.toml").read_bytes()
@@ -431,12 +431,7 @@ def check_server():
 
 
 def main():
-    folder = Path(sys.argv[1]).resolve() if sys.argv[1:] else None
-    for name in "lobby_check", "lobby_main":
-        path = folder / name if folder else ROOT / "crates" / name / "out" / name
-        if not os.access(path, os.X_OK):
-            sys.exit(f"there is no {path}: make test builds it")
-        os.environ[name.upper()] = str(path)
+    use_programs((sys.argv[1:] or [None])[0], "lobby_check", "lobby_main")
     with tempfile.TemporaryDirectory(prefix="lobby-accounts-") as programs:
         for name in "lobby_check", "lobby_main":
             shutil.copy(os.environ[name.upper()], programs)

@@ -37,6 +37,15 @@ def program(variable, name):
     return str(path.resolve())
 
 
+def use_programs(folder, *names):
+    """Names programs in the environment, each as its variable: those of a folder, or those that the gate built where there is none."""
+    for name in names:
+        path = Path(folder).resolve() / name if folder else ROOT / "crates" / name / "out" / name
+        if not os.access(path, os.X_OK):
+            sys.exit(f"there is no {path}: make test builds it")
+        os.environ[name.upper()] = str(path)
+
+
 def free_port():
     """A port below those that the system gives to clients, on which nothing listens now."""
     for _ in range(100):

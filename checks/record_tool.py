@@ -15,7 +15,7 @@ import tempfile
 import time
 from pathlib import Path
 
-from lobby_server import PATIENCE, ROOT, WORD, Account, Server, greeted
+from lobby_server import PATIENCE, ROOT, WORD, Account, Server, greeted, use_programs
 
 TOOL = ROOT / "operator/lobby_record.py"
 counts = {True: 0, False: 0}
@@ -374,12 +374,7 @@ def check_crash(folder):
 
 
 def main():
-    folder = Path(sys.argv[1]).resolve() if sys.argv[1:] else None
-    for name in "lobby_main", "lobby_play":
-        path = folder / name if folder else ROOT / "crates" / name / "out" / name
-        if not os.access(path, os.X_OK):
-            sys.exit(f"there is no {path}: make test builds it")
-        os.environ[name.upper()] = str(path)
+    use_programs((sys.argv[1:] or [None])[0], "lobby_main", "lobby_play")
     with tempfile.TemporaryDirectory(prefix="lobby-record-tool-") as room:
         record = recorded(Path(room))
         for it in check_page, check_story, check_window, check_times, check_find, check_pack:

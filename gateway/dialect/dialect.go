@@ -254,17 +254,7 @@ func (d *Dialect) open(line []byte, r *request, out *Out) Verdict {
 	if !r.check() || !openQuestion(r.rest) {
 		return Same
 	}
-	d.mutex.Lock()
-	defer d.mutex.Unlock()
-	if d.unsettled() {
-		return Hold
-	}
-	if !d.waiting {
-		return Same
-	}
-	d.askNoMore(out)
-	d.probe(out, shut)
-	return put(&out.There, string(line))
+	return d.withdraw(out, &out.There, string(line))
 }
 
 func (d *Dialect) leave(r *request) Verdict {
@@ -291,6 +281,11 @@ func (d *Dialect) say(r *request, out *Out) Verdict {
 	if _, text, good := spoken(r.rest); !good || string(text) != cancel {
 		return Same
 	}
+	return d.withdraw(out, &out.Here, string(r.tag), cancelled)
+}
+
+// withdraw takes one who waits out, and then puts a line. Where nobody waits, the line that asks for it goes on.
+func (d *Dialect) withdraw(out *Out, to *[]byte, line ...string) Verdict {
 	d.mutex.Lock()
 	defer d.mutex.Unlock()
 	if d.unsettled() {
@@ -301,7 +296,7 @@ func (d *Dialect) say(r *request, out *Out) Verdict {
 	}
 	d.askNoMore(out)
 	d.probe(out, shut)
-	return put(&out.Here, string(r.tag), cancelled)
+	return put(to, line...)
 }
 
 // askNoMore takes one who waits out. What the server says to that is known by the PONG before it and the one behind.
