@@ -218,8 +218,9 @@ def check_broken():
             ("a byte that is not UTF-8", ONE.encode() + b"# caf\xe9\n", ":5: the line is not UTF-8"),
             ("accounts in one line", 'account = [{name = "Anna", password = "' + WORD + '", id = 1}]\n',
              ":1: lobby_account finds"),
-            ("an account that lobby_check refuses", f"{ONE}\n{account('Bert', 2)}rank = 8\n", ":6: a key of account 2"),
-            ("a name twice", f"{ONE}\n{ONE}", ":6: account 2 has the name")):
+            ("an account that lobby_check refuses", f"{ONE}\n{account('Bert', 2)}rank = 8\n",
+             ":10: account 2 (Bert): `rank` is not allowed"),
+            ("a name twice", f"{ONE}\n{ONE}", ":7: account 2 (Anna): `name` is that of account 1")):
         with Room(text) as room:
             room.refuses(what, "add", "Ben", password=b"p\n", told=[f"{room.file}{told}"])
             room.refuses(f"{what}, where nothing is to be changed", "enable", "Anna", told=[f"{room.file}{told}"])

@@ -231,16 +231,13 @@ def check(book, file):
         is_good, told = checked(settings, file)
     if is_good:
         return
-    told = [it for it in told if not it.startswith(("settings:", "memory:"))]
-    told = told or ["lobby_check refuses it, and does not say why"]
+    told = [it for it in told if it.startswith("accounts:")] or ["lobby_check refuses it, and does not say why"]
     lines = []
     for it in told:
-        found = re.match(r"accounts: .*?\baccount (\d+)\b", it)
+        said = it.removeprefix("accounts: ").replace(str(file), str(book.path), 1)
+        found = re.match(r".*?:\d+: account (\d+)\b", said)
         number = int(found[1]) if found else 0
-        at = f":{book.line_of(number - 1)}" if 0 < number <= len(book.entries) else ""
-        said = it.removeprefix("accounts: ")
-        lines.append(f"{book.path}{at}: " + (said.replace(f"account {number}", "the new account")
-                                             if number > len(book.entries) else said))
+        lines.append(said.replace(f"account {number}", "the new account", 1) if number > len(book.entries) else said)
     raise Refused("\n".join(lines))
 
 

@@ -1,13 +1,12 @@
 //! One client's bytes, read line by line.
 
-ghost use Rattle.std.specs.Prelude.{◌≡◌, ℕ, ◌+◌, ◌↔◌, List, [], ◌++◌, IfOk, OnErr, IsSome, IsTrue, true};
+ghost use Rattle.std.specs.Prelude.{◌≡◌, ℕ, ◌+◌, ◌↔◌, ◌<◌, List, [], ◌++◌, IfOk, OnErr, IsSome, IsTrue, length, true};
 ghost use Rattle.line_framer.specs.Feeding.{IsJudged};
 ghost use Rattle.line_framer.specs.Framed.{next_line};
 ghost use Rattle.client_session.specs.OneSession.{AcceptsNext};
 ghost use Rattle.client_session.specs.Sessions.{Heard, IsNext, KeepsKinds, NeedsMemory, has_next};
 
-use command_grammar::Request;
-use command_reader::{LINE_LIMIT, read_request};
+use command_grammar::{LINE_LIMIT, Request, read_request};
 use line_framer::{FeedError, Framer};
 use std::alloc::{AllocError, Global};
 use std::marker::Model;
@@ -80,7 +79,8 @@ impl Session {
     }
 
     /// Takes in the next piece of the client's bytes, up to a spoilt place. `Spoilt` says that one
-    /// was met; the lines before it are kept. Where memory is refused, nothing was taken in.
+    /// was met; the lines before it are kept. Where memory is refused, nothing was taken in; it is not refused to a
+    /// piece without bytes.
     pub fn feed(&mut self, piece: &[u8]) -> Result<(), FeedError>
         ensures client { self.new.client ≡ self.old.client }
         ensures heard { (bytes : List ℕ) (accepted : ℕ) → Heard self.old.framed bytes accepted
@@ -89,6 +89,7 @@ impl Session {
             → IsJudged (bytes ++ piece.now) self.old.framed.limit result }
         ensures later { self.old.framed.spoilt ≡ true → (result ≡ Err FeedError.Spoilt) × (self.new ≡ self.old) }
         ensures memory { result ≡ Err FeedError.Memory → self.new ≡ self.old }
+        ensures wanted { result ≡ Err FeedError.Memory → 0 < length piece.now }
     {
         self.framer.feed(piece)
     }

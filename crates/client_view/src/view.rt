@@ -1,6 +1,6 @@
 //! What a client knows from its own bytes.
 
-ghost use Rattle.std.specs.Prelude.{◌≡◌, ◌+◌, true, false, [], ◌∷◌, ◌++◌, length, IfOk, IfSome, IsTrue, Err, None};
+ghost use Rattle.std.specs.Prelude.{◌≡◌, ◌+◌, ◌<◌, true, false, [], ◌∷◌, ◌++◌, length, IfOk, IfSome, IsTrue, Err, None};
 ghost use Rattle.std.specs.Prelude.{nat_lt, option_copied};
 ghost use Rattle.line_words.specs.Bytes.{is_name};
 ghost use Rattle.line_framer.specs.Buffered.{HasNoEnd};
@@ -63,7 +63,8 @@ impl View {
     ///
     /// `LineTooLong` where a line of the bytes so far has more than 20,479 bytes before its LF, whether
     /// it has ended or not: the lines before it are folded, and then nothing changes any more.
-    /// `Memory` where memory was refused: nothing has changed, and the piece may be fed again.
+    /// `Memory` where memory was refused: nothing has changed, and the piece may be fed again. An empty piece takes
+    /// none.
     pub fn feed(&mut self, piece: &[u8]) -> Result<usize, ViewError>
         ensures ok { IfOk result (λ count.
             TookIn self.old piece.now self.new × (self.new.spoilt ≡ false) × HasNew self.old piece.now count) }
@@ -71,6 +72,7 @@ impl View {
             → TookIn self.old piece.now self.new × (self.new.spoilt ≡ true) }
         ensures later { self.old.spoilt ≡ true → (result ≡ Err ViewError.LineTooLong) × (self.new ≡ self.old) }
         ensures memory { result ≡ Err ViewError.Memory → self.new ≡ self.old }
+        ensures wanted { result ≡ Err ViewError.Memory → 0 < length piece.now }
     {
         if self.spoilt {
             return Err(ViewError::LineTooLong);
@@ -116,6 +118,7 @@ impl View {
         ensures too_long { result ≡ Err ViewError.LineTooLong
             → TookIn self.old more.now self.new × (self.new.spoilt ≡ true) }
         ensures memory { result ≡ Err ViewError.Memory → self.new ≡ self.old }
+        ensures wanted { result ≡ Err ViewError.Memory → 0 < length more.now }
     {
         if self.is_too_long(more) {
             self.spoilt = true;

@@ -3,12 +3,13 @@
 use crate::lists::are;
 use crate::verdict::{same, same_for};
 use account_book::{Account, AccountBook};
-use command_grammar::{Command, ReadFault, Request};
-use command_reader::read_request;
+use command_grammar::{Command, ReadFault, Request, read_request};
 use line_words::TextBuf;
 use lobby_model::{Event, MadeEvent, Settings};
 use lobby_setup::Setup;
-use record_lines::{FAILS, Masks, PASSES, RecordFault, put_account, put_entry, put_settings};
+use record_lines::{
+    FAILS, Masks, PASSES, RecordFault, accounts_file, put_account, put_entry, settings_file,
+};
 use std::alloc::{AllocError, Global};
 
 const WORD: &[u8] = b"X03MO1qnZdYdgyfeuILPmQ==";
@@ -200,7 +201,54 @@ fn account_read_back(alloc: Global) -> Option<bool> {
 
 fn put_anna(alloc: Global, head: &mut Vec<u8>) -> Option<()> {
     let accounts = book(alloc).ok()?;
-    put_account(head, accounts.get(b"Anna")?).ok()
+    put_account(alloc, head, accounts.get(b"Anna")?).ok()
+}
+
+static LISTED: &[u8] = b"format = 2
+[[account]]
+name = \"Ben\"
+password = \"X03MO1qnZdYdgyfeuILPmQ==\"
+id = 1
+
+[[account]]
+name = \"Cleo\"
+password = \"X03MO1qnZdYdgyfeuILPmQ==\"
+id = 2
+disabled = true
+
+[[account]]
+name = \"[d]_9\"
+password = \"X03MO1qnZdYdgyfeuILPmQ==\"
+id = 3
+country = \"SE\"
+";
+
+static WRITTEN: &[u8] = b"[[account]]
+access = false
+bot = false
+country = \"??\"
+id = 1
+name = \"Ben\"
+password = \"AAAAAAAAAAAAAAAAAAAAAA==\"
+rank = 0
+
+[[account]]
+access = false
+bot = false
+country = \"SE\"
+id = 3
+name = \"[d]_9\"
+password = \"AAAAAAAAAAAAAAAAAAAAAA==\"
+rank = 0
+";
+
+#[test]
+fn the_accounts_of_a_file_are_written_without_words_and_disabled_ones(rt: HostRuntime) {
+    let written = match accounts_file(rt.alloc(), LISTED) {
+        Ok(made) => made.as_slice() == WRITTEN,
+        Err(_) => false,
+    };
+    same(&rt, written, true);
 }
 
 /// Whether it is the account of the book, but for its word.
@@ -241,15 +289,14 @@ fn motd(alloc: Global) -> Option<Vec<TextBuf>> {
     Some(motd)
 }
 
-fn put_set(alloc: Global, head: &mut Vec<u8>) -> Option<()> {
+fn head_of_settings(alloc: Global) -> Option<Vec<u8>> {
     let motd = motd(alloc)?;
     let set = Settings::new(alloc, b"0.39\"", b"\\*", 65_535, 1, &motd, 65_536).ok()?;
-    put_settings(head, &set).ok()
+    settings_file(alloc, "0.1.0", &set).ok()
 }
 
 fn settings_read_back(alloc: Global) -> Option<bool> {
-    let mut head = Vec::new(alloc);
-    put_set(alloc, &mut head)?;
+    let head = head_of_settings(alloc)?;
     let read = Setup::read(alloc, &head).ok()?;
     let found = &read.settings;
     Some(

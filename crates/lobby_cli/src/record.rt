@@ -1,16 +1,14 @@
 //! The files of a record that begins with the server.
 
 use crate::error::ProgramError;
-use account_book::{contents_of, described};
+use account_book::AccountsError;
 use lobby_model::Settings;
 use lobby_workers::{Masks, Record, RecordFiles, ServerError};
 use program_help::VERSION;
-use record_lines::{put_account, put_settings};
-use std::alloc::{AllocError, Global};
+use record_lines::{accounts_file, settings_file};
 use std::fs::{self, OpenOptions};
 use std::io::{self, ErrorKind, Write};
 use std::rt::Files;
-use toml_fields::read_document;
 
 /// What the last line of one file takes on a full disk at most: a block.
 static BLOCK: [u8; 4_096] = [0; 4_096];
@@ -56,9 +54,9 @@ fn add_files<R: Files + AllocGlobal>(
     files: &mut RecordFiles<R::File>,
 ) -> Result<(), ProgramError> {
     let folder = new_folder(rt, record.folder)?;
-    let text = settings_text(rt.alloc(), record.settings)?;
+    let text = settings_file(rt.alloc(), VERSION, record.settings)?;
     write_file(rt, folder.as_str(), "settings.toml", &text)?;
-    let text = accounts_text(rt.alloc(), record.accounts)?;
+    let text = accounts_file(rt.alloc(), record.accounts).map_err(unlisted)?;
     write_file(rt, folder.as_str(), "accounts.toml", &text)?;
     for worker in 0..record.workers {
         let name = format!(in rt.alloc(); "{folder}/{worker}")?;
@@ -76,34 +74,12 @@ fn add_files<R: Files + AllocGlobal>(
     Ok(())
 }
 
-/// A file of settings that sets a lobby up to these, and says which server wrote it.
-fn settings_text(alloc: Global, settings: &Settings) -> Result<Vec<u8>, AllocError> {
-    let mut text = Vec::new(alloc);
-    text.extend_from_slice(b"# record 1 of version ")?;
-    text.extend_from_slice(VERSION.as_bytes())?;
-    text.push(b'\n')?;
-    put_settings(&mut text, settings)?;
-    Ok(text)
-}
-
-/// A file of the accounts that another lists and that are not disabled, without their words.
-fn accounts_text(alloc: Global, file: &[u8]) -> Result<Vec<u8>, ProgramError> {
-    let mut text = Vec::new(alloc);
-    let Ok(table) = read_document(alloc, file) else {
-        return Err(ServerError::Memory.into());
-    };
-    let Ok(contents) = contents_of(&table) else {
-        return Err(ProgramError::Accounts);
-    };
-    for entry in contents.entries {
-        let Some(listing) = described(alloc, contents.format, contents.default, entry)? else {
-            return Err(ProgramError::Accounts);
-        };
-        if !listing.disabled {
-            put_account(&mut text, &listing.account)?;
-        }
+/// Why the accounts of a record cannot be written.
+fn unlisted(error: AccountsError) -> ProgramError {
+    match error {
+        AccountsError::Memory => ServerError::Memory.into(),
+        _ => ProgramError::Accounts,
     }
-    Ok(text)
 }
 
 /// A new folder below this one.

@@ -9,3 +9,4 @@ pub mod Opened
 pub mod Steps
 pub mod Answered
 pub mod Following
+pub mod Wanted

@@ -10,10 +10,13 @@ ghost use Rattle.lobby_model.specs.declared.schedule.Step.{Step};
 ghost use Rattle.lobby_model.specs.declared.schedule.Step.TheVariants as step;
 ghost use Rattle.lobby_model.specs.Configuration.{Configuration};
 ghost use Rattle.lobby_model.specs.Next.{next};
+ghost use Rattle.lobby_model.specs.Sessions.{has_place};
 ghost use Rattle.lobby_model.specs.Schedule.{World, new_world};
 ghost use Rattle.lobby_hall.specs.Copied.{IsWithin, changed_at, completed};
 ghost use Rattle.client_session.specs.OneSession.{Accepted};
 ghost use Rattle.lobby_hall.specs.Schedules.{IsRecordOf, StandsFor};
+ghost use Rattle.lobby_hall.specs.Wanting.{MayNeed};
+ghost use Rattle.lobby_machine.specs.Shown.{unread_of};
 ghost use Rattle.lobby_hall.specs.Standing.{HasHome, Stands, TakesStep, is_ready, session_at};
 
 use crate::record::Record;
@@ -107,6 +110,7 @@ impl Hall {
         requires { home ≤ 63 }
         ensures ok { OnOk result (TakesStep self.old self.new (step.Open ip home)) }
         ensures err { OnErr result (self.new ≡ self.old) }
+        ensures wanted { OnErr result (MayNeed self.old (step.Open ip home)) }
     {
         if !self.lobby.has_place() {
             return Ok(());
@@ -137,6 +141,7 @@ impl Hall {
     fn arrive(&mut self, client: u64, bytes: &[u8]) -> Result<(), AllocError>
         ensures ok { OnOk result (TakesStep self.old self.new (step.Arrive client bytes.now)) }
         ensures err { OnErr result (self.new ≡ self.old) }
+        ensures wanted { OnErr result (MayNeed self.old (step.Arrive client bytes.now)) }
     {
         feed(&mut self.sessions, client, bytes)
     }
@@ -145,6 +150,7 @@ impl Hall {
     fn take(&mut self, client: u64) -> Result<(), AllocError>
         ensures ok { OnOk result (TakesStep self.old self.new (step.Take client)) }
         ensures err { OnErr result (self.new ≡ self.old) }
+        ensures wanted { OnErr result (MayNeed self.old (step.Take client)) }
     {
         match next_of(&self.sessions, client)? {
             Next::Nothing => Ok(()),
@@ -195,6 +201,7 @@ impl Hall {
     fn read(&mut self, client: u64, count: usize) -> Result<(), AllocError>
         ensures ok { OnOk result (TakesStep self.old self.new (step.Read client count)) }
         ensures err { OnErr result (self.new ≡ self.old) }
+        ensures wanted { OnErr result (MayNeed self.old (step.Read client count)) }
     {
         if !self.lobby.has_client(client) {
             return Ok(());
@@ -212,6 +219,7 @@ impl Hall {
     fn shut(&mut self, client: u64) -> Result<(), AllocError>
         ensures ok { OnOk result (TakesStep self.old self.new (step.Shut client)) }
         ensures err { OnErr result (self.new ≡ self.old) }
+        ensures wanted { OnErr result (MayNeed self.old (step.Shut client)) }
     {
         if !self.lobby.has_client(client) {
             return Ok(());
@@ -221,7 +229,8 @@ impl Hall {
 
     /// Takes one step of a schedule, in which an open names a worker from 0 to 63 as home. A step for a
     /// client that is not open, and an open that the lobby refuses, do nothing. Fails only where memory is
-    /// refused, and then nothing changes.
+    /// refused, and then nothing changes. A step that does nothing, bytes that are none, and a take where neither
+    /// a whole line nor a spoilt place is next, ask for none.
     pub fn step(&mut self, step: &Step) -> Result<(), HallError>
         requires { HasHome step.now }
         ensures ok { OnOk result (TakesStep self.old self.new step.now) }
@@ -229,6 +238,7 @@ impl Hall {
             → StandsFor self.old settings accounts steps
             → StandsFor self.new settings accounts (steps ++ step.now ∷ [])) }
         ensures err { OnErr result (self.new ≡ self.old) }
+        ensures wanted { OnErr result (MayNeed self.old step.now) }
     {
         self.take_step(step)?;
         Ok(())
@@ -238,6 +248,7 @@ impl Hall {
         requires { HasHome step.now }
         ensures ok { OnOk result (TakesStep self.old self.new step.now) }
         ensures err { OnErr result (self.new ≡ self.old) }
+        ensures wanted { OnErr result (MayNeed self.old step.now) }
     {
         match step {
             Step::Open { ip, home } => self.open(*ip, *home),
@@ -254,6 +265,20 @@ impl Hall {
             → Stands self.now settings accounts events world → result ≡ is_ready world client }
     {
         is_ready(&self.sessions, client)
+    }
+
+    /// Whether an open would let a client in.
+    pub fn has_place(&self) -> bool
+        ensures { result ≡ has_place self.now.lobby }
+    {
+        self.lobby.has_place()
+    }
+
+    /// How many bytes wait for a client: none, where it is not open.
+    pub fn unread(&self, client: u64) -> usize
+        ensures { result ≡ length (unread_of self.now.lobby client) }
+    {
+        self.lobby.unread(client)
     }
 
     /// The number of the last client that was opened, 0 before the first.

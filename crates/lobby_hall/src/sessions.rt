@@ -1,10 +1,11 @@
 //! The sessions of all clients that were ever opened, in the order of their numbers; none, once a
 //! client is removed.
 
-ghost use Rattle.std.specs.Prelude.{◌≡◌, ◌≢◌, ℕ, length, IfOk, OnOk, OnErr, None};
+ghost use Rattle.std.specs.Prelude.{◌≡◌, ◌≢◌, ℕ, length, IfOk, OnOk, OnErr, None, true};
 ghost use Rattle.std.specs.Option.{option_copied};
 ghost use Rattle.lobby_hall.specs.Copied.{changed_at};
 ghost use Rattle.lobby_hall.specs.Standing.{session_at};
+ghost use Rattle.lobby_hall.specs.Wanting.{TakesIn};
 ghost use Rattle.client_session.specs.OneSession.{Accepted, Fed, IsNextOf, IsReady};
 ghost use Rattle.client_session.specs.Sessions.{KeepsKinds};
 
@@ -24,6 +25,7 @@ pub(crate) fn feed(
     ensures others { (q : ℕ) → q ≢ client → session_at sessions.new.items q ≡ session_at sessions.old.items q }
     ensures same_length { length sessions.new.items ≡ length sessions.old.items }
     ensures err { OnErr result (sessions.new.items ≡ sessions.old.items) }
+    ensures wanted { OnErr result (TakesIn (session_at sessions.old.items client) piece.now) }
 {
     let Some(index) = index_of(client) else {
         return Ok(());
@@ -37,6 +39,7 @@ pub(crate) fn feed(
 fn feed_one(session: &mut Option<Session>, piece: &[u8]) -> Result<(), AllocError>
     ensures fed { OnOk result (Fed session.old session.new piece.now) }
     ensures err { OnErr result (session.new ≡ session.old) }
+    ensures wanted { OnErr result (TakesIn session.old piece.now) }
 {
     match session {
         Some(session) => match session.feed(piece) {
@@ -86,6 +89,7 @@ pub(crate) fn close(sessions: &mut Vec<Option<Session>>, client: u64)
 pub(crate) fn next_of(sessions: &[Option<Session>], client: u64) -> Result<Next, AllocError>
     ensures next { IfOk result (IsNextOf (session_at sessions.now client)) }
     ensures kinds { IfOk result KeepsKinds }
+    ensures wanted { OnErr result (IsReady (session_at sessions.now client) true) }
 {
     match session_of(sessions, client) {
         Some(session) => session.next_request(),

@@ -43,14 +43,20 @@ fn play_streams<R: Input + Print + AllocGlobal>(rt: &R) -> Result<(), PlayFault>
     play(rt.alloc(), &mut rt.reader(), &mut writer)
 }
 
-/// The status: 0, or that of the fault, which is told on standard error.
-fn run<R: Env + Files + Input + Print + Eprint + AllocGlobal>(rt: &R) -> u8 {
-    if let Some(folder) = record::folder_asked(rt) {
-        return record::play_folder(rt, folder.as_str());
-    }
-    let played = match program_help::answers(rt, "lobby_play", HELP) {
+/// Plays the script of standard input, where the arguments do not ask what the program is.
+fn play_script<R: Env + Input + Print + AllocGlobal>(rt: &R) -> Result<(), PlayFault> {
+    match program_help::answers(rt, "lobby_play", HELP) {
         Ok(true) => Ok(()),
         Ok(false) => play_streams(rt),
+        Err(_) => Err(PlayFault::Memory),
+    }
+}
+
+/// The status: 0, or that of the fault, which is told on standard error.
+fn run<R: Env + Files + Input + Print + Eprint + AllocGlobal>(rt: &R) -> u8 {
+    let played = match record::folder_asked(rt) {
+        Ok(Some(folder)) => return record::play_folder(rt, folder.as_str()),
+        Ok(None) => play_script(rt),
         Err(_) => Err(PlayFault::Memory),
     };
     match played {

@@ -79,19 +79,20 @@ impl From<QuestionFault> for FolderFault {
     }
 }
 
-/// The folder of the record that the arguments ask for: `--record FOLDER`.
-pub fn folder_asked<R: Env + AllocGlobal>(rt: &R) -> Option<String> {
-    let mut words = env::args(rt).ok()?;
+/// The folder of the record that the arguments ask for: `--record FOLDER`. Fails only where memory for the arguments is
+/// refused.
+pub fn folder_asked<R: Env + AllocGlobal>(rt: &R) -> Result<Option<String>, AllocError> {
+    let mut words = match env::args(rt) {
+        Ok(words) => words,
+        Err(error) if error.kind() == ErrorKind::OutOfMemory => return Err(AllocError),
+        Err(_) => return Ok(None),
+    };
     words.next();
-    let word = words.next()?;
-    if word.as_str() != "--record" {
-        return None;
+    if !words.next().is_some_and(|word| word.as_str() == "--record") {
+        return Ok(None);
     }
-    let folder = words.next()?;
-    if words.next().is_some() {
-        return None;
-    }
-    Some(folder)
+    let folder = words.next();
+    Ok(if words.next().is_some() { None } else { folder })
 }
 
 /// Plays the record of a folder, and answers the questions of standard input. The status; a fault is told on standard

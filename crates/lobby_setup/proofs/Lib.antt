@@ -2,3 +2,4 @@ pub mod Lines
 pub mod Bounds
 pub mod Endpoints
 pub mod Addresses
+pub mod FirstFault

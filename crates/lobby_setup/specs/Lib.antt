@@ -2,6 +2,7 @@ pub mod Answers
 pub mod At
 pub mod Choices
 pub mod Errors
+pub mod Faults
 pub mod Gathered
 pub mod Keys
 pub mod Levels

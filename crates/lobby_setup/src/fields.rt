@@ -1,14 +1,16 @@
 //! What the keys of a file of settings say.
 
 ghost use Rattle.std.specs.Prelude.{◌≡◌, ◌≤◌, IfOk, IsTrue, None, true, []};
+ghost use Rattle.std.specs.Result.{result_err};
 ghost use Rattle.toml.specs.View.{table_view, items_view};
 ghost use Rattle.toml_fields.specs.Fields.{flag, lent, number, required, seen_list, text};
 ghost use Rattle.proxy_line.specs.Words.{IsSocketAddress};
-ghost use Rattle.lobby_model.specs.Configuration.{is_configuration, is_version};
+ghost use Rattle.lobby_model.specs.Configuration.{is_configuration, is_version, least_outbox_limit};
+ghost use Rattle.lobby_model.specs.Configuration.{greatest_outbox_limit};
 ghost use Rattle.lobby_setup.specs.Keys.{name_of};
 ghost use Rattle.lobby_setup.specs.Motd.{motd_fault};
 ghost use Rattle.lobby_setup.specs.Choices.{choices, motd_items, version};
-ghost use Rattle.lobby_setup.specs.At.{field};
+ghost use Rattle.lobby_setup.specs.At.{at, field};
 ghost use Rattle.lobby_setup.specs.Proxies.{all_listed};
 ghost use Rattle.lobby_setup.specs.Written.{IsWritten};
 ghost use Rattle.lobby_setup.specs.Gathered.{gathered, gathered_of};
@@ -71,8 +73,47 @@ fn number_field(table: &Table, key: Key, low: u32, high: u32, default: u32) -> R
     }
 }
 
+/// How many threads serve clients.
+pub fn workers_field(table: &Table) -> Result<u32, Refusal>
+    ensures value { result ≡ field Key.Workers (number 1 64) 4 (table_view table.now) }
+    ensures within { IfOk result (λ number. (1 ≤ number) × (number ≤ 64)) }
+{
+    number_field(table, Key::Workers, 1, WORKERS as u32, 4)
+}
+
+/// The most bytes that may wait unread for a client.
+pub fn outbox_field(table: &Table) -> Result<u32, Refusal>
+    ensures value { result ≡ field Key.OutboxLimit (number least_outbox_limit greatest_outbox_limit) 4194304
+        (table_view table.now) }
+    ensures within { IfOk result (λ number. (65536 ≤ number) × (number ≤ 67108864)) }
+{
+    number_field(
+        table,
+        Key::OutboxLimit,
+        LEAST_OUTBOX_LIMIT as u32,
+        GREATEST_OUTBOX_LIMIT as u32,
+        DEFAULT_OUTBOX_LIMIT as u32,
+    )
+}
+
+/// The port that a client is greeted with.
+pub fn port_field(table: &Table) -> Result<u32, Refusal>
+    ensures value { result ≡ field Key.UdpPort (number 0 65535) 8201 (table_view table.now) }
+    ensures within { IfOk result (λ number. number ≤ 65535) }
+{
+    number_field(table, Key::UdpPort, 0, 65_535, 8201)
+}
+
+/// The mode that a client is greeted with.
+pub fn mode_field(table: &Table) -> Result<u32, Refusal>
+    ensures value { result ≡ field Key.ServerMode (number 0 1) 0 (table_view table.now) }
+    ensures within { IfOk result (λ number. number ≤ 1) }
+{
+    number_field(table, Key::ServerMode, 0, 1, 0)
+}
+
 /// The version word at a key, or `default` where it is missing.
-fn version_field<'a>(table: &'a Table, key: Key, default: &'a str) -> Result<&'a str, Refusal>
+pub fn version_field<'a>(table: &'a Table, key: Key, default: &'a str) -> Result<&'a str, Refusal>
     requires { is_version default.now ≡ true }
     ensures value { lent result ≡ field key version default.now (table_view table.now) }
     ensures version { IfOk result (λ word. is_version word.now ≡ true) }
@@ -103,7 +144,7 @@ fn motd_field(table: &Table) -> Result<&[Value], Refusal>
 }
 
 /// Whether the flag at a key is set, or `default` where it is missing.
-fn flag_field(table: &Table, key: Key, default: bool) -> Result<bool, Refusal>
+pub fn flag_field(table: &Table, key: Key, default: bool) -> Result<bool, Refusal>
     ensures { result ≡ field key flag default (table_view table.now) }
 {
     match flag_or(table, key.name(), default) {
@@ -113,12 +154,25 @@ fn flag_field(table: &Table, key: Key, default: bool) -> Result<bool, Refusal>
 }
 
 /// The text at a key, or an empty one where it is missing.
-fn text_field(table: &Table, key: Key) -> Result<&str, Refusal>
+pub fn text_field(table: &Table, key: Key) -> Result<&str, Refusal>
     ensures { lent result ≡ field key text [] (table_view table.now) }
 {
     match text_or(table, key.name(), "") {
         Ok(text) => Ok(text),
         Err(fault) => Err(Refusal::Field { key, fault }),
+    }
+}
+
+/// Why what was read at `address` is refused, if it is.
+pub fn endpoint_refusal(endpoint: Result<([u8; 4], u16), FieldFault>) -> Option<Refusal>
+    ensures { result ≡ result_err (at Key.Address endpoint) }
+{
+    match endpoint {
+        Ok(_) => None,
+        Err(fault) => Some(Refusal::Field {
+            key: Key::Address,
+            fault,
+        }),
     }
 }
 
@@ -146,18 +200,12 @@ pub fn fields_of(
     Ok(Fields {
         ip,
         port,
-        workers: number_field(table, Key::Workers, 1, WORKERS as u32, 4)?,
-        outbox_limit: number_field(
-            table,
-            Key::OutboxLimit,
-            LEAST_OUTBOX_LIMIT as u32,
-            GREATEST_OUTBOX_LIMIT as u32,
-            DEFAULT_OUTBOX_LIMIT as u32,
-        )?,
+        workers: workers_field(table)?,
+        outbox_limit: outbox_field(table)?,
         protocol_version: version_field(table, Key::ProtocolVersion, "0.38")?,
         spring_version: version_field(table, Key::SpringVersion, "*")?,
-        udp_port: number_field(table, Key::UdpPort, 0, 65_535, 8201)? as u16,
-        server_mode: number_field(table, Key::ServerMode, 0, 1, 0)? as u8,
+        udp_port: port_field(table)? as u16,
+        server_mode: mode_field(table)? as u8,
         motd: motd_field(table)?,
         stop_at_input_end: flag_field(table, Key::StopAtInputEnd, false)?,
         proxies: proxies?,

@@ -39,6 +39,23 @@ pub enum Key {
 }
 
 impl Key {
+    /// All of them, in their order.
+    pub const ALL: [Key; 13] = [
+        Key::Address,
+        Key::Workers,
+        Key::OutboxLimit,
+        Key::ProtocolVersion,
+        Key::SpringVersion,
+        Key::UdpPort,
+        Key::ServerMode,
+        Key::Motd,
+        Key::StopAtInputEnd,
+        Key::Proxies,
+        Key::Log,
+        Key::Record,
+        Key::Private,
+    ];
+
     /// How it is written in the file.
     pub fn name(self) -> &'static str
         ensures { result.now ≡ name_of self }

@@ -5,8 +5,8 @@
 //! may be and what holds where it is left out stands at [`Key`], and in docs/OPERATING.md, "Settings".
 #![tactic(auto)]
 
-mod burst;
 mod error;
+mod faults;
 mod fields;
 mod file_error;
 mod files;
@@ -14,13 +14,12 @@ mod key;
 mod level;
 mod motd;
 mod proxies;
-mod report;
 mod setup;
 
 pub use error::{Refusal, SetupError, SetupFault};
+pub use faults::settings_faults;
 pub use file_error::{AccountsFault, FileError};
 pub use files::{accounts_at, accounts_of, read_file, settings_at};
 pub use key::Key;
 pub use lobby_model::CLIENT_LIMIT;
-pub use report::check;
 pub use setup::{Setup, read_setup};

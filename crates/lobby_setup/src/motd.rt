@@ -12,7 +12,7 @@ use toml::Value;
 use toml_fields::FieldFault;
 
 /// Why a value cannot be the line at this place, counted from 1.
-fn line_fault(place: usize, value: &Value) -> Option<FieldFault>
+pub fn line_fault(place: usize, value: &Value) -> Option<FieldFault>
     ensures { result ≡ line_fault place (view value.now) }
 {
     match value.as_str() {

@@ -12,7 +12,7 @@ use toml::{Table, Value};
 use toml_fields::{FieldFault, list_or_empty, text_of};
 
 /// What a value says as the address at this place, counted from 1.
-fn address_at(place: usize, value: &Value) -> Result<[u8; 4], FieldFault>
+pub fn address_at(place: usize, value: &Value) -> Result<[u8; 4], FieldFault>
     ensures { IsWritten (IsProxy place) (text (view value.now)) result }
 {
     match text_of(value) {

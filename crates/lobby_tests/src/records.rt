@@ -76,7 +76,7 @@ static ANSWERED: [Asked; 8] = [
 ];
 
 /// Which line of which file is refused.
-static REFUSED: [(&[&[u8]], RecordFault); 20] = [
+static REFUSED: [(&[&[u8]], RecordFault); 22] = [
     (
         &[b"0 open 1 10.0.0.1\nend stop\n", SECOND],
         RecordFault::Hole(2),
@@ -140,6 +140,16 @@ static REFUSED: [(&[&[u8]], RecordFault); 20] = [
     ),
     (
         &[b"0 open 1 10.0.0.1\n1 read 1 25\n"],
+        RecordFault::OtherCourse { file: 0, line: 2 },
+    ),
+    // Who has gone reads nothing more.
+    (
+        &[b"0 open 1 10.0.0.1\n1 shut 1\n2 read 1 5\n"],
+        RecordFault::OtherCourse { file: 0, line: 3 },
+    ),
+    // A client that was there already is opened again.
+    (
+        &[b"0 open 1 10.0.0.1\n1 open 1 10.0.0.1\n"],
         RecordFault::OtherCourse { file: 0, line: 2 },
     ),
     (

@@ -5,5 +5,12 @@ pub mod Masked
 pub mod Homed
 pub mod Recorded
 pub mod Shorter
+pub mod PlainLines
 pub mod Entered
-pub mod Headed
+pub mod Replayed
+pub mod Tables
+pub mod Spelled
+pub mod SettingsRead
+pub mod AccountsRead
+pub mod Listed
+pub mod Built

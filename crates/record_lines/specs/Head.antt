@@ -1,53 +1,107 @@
--- The head of a record: settings and accounts, as files have them.
-use Rattle.std.specs.Prelude.{ℕ, ◌==◌, ◌||◌, Bool, List, [], ◌∷◌, ◌++◌, codes, decimal, flat_map, if◌then◌else◌}
-use Rattle.account_book.specs.Account.{Account}
-use Rattle.lobby_model.specs.Configuration.{Configuration}
-use Rattle.record_lines.specs.Masks.{passes}
-use Rattle.record_lines.specs.Printed.{hexadecimal_digits, is_control}
+-- The head of a record: the settings and the accounts by which its events are played, as files have them.
+use Rattle.std.specs.Prelude.{◌≡◌, ℕ, pos, Bool, IsTrue, ◌&&◌, nat_le, List, [], ◌∷◌, ◌++◌, map, codes, false, ⊤}
+use Rattle.std.specs.Prelude.{Result, Ok, Err}
+use Rattle.std.specs.Cmp.Lexicographic.{slice_cmp}
+use Rattle.std.specs.Ordering.{nat_cmp, match_ordering}
+use Rattle.std.specs.Str.{is_utf8}
+use Rattle.std.specs.Str.Lossy.{utf8_lossy}
+use Rattle.toml.specs.Data.{Data, string, integer, boolean, array, table, Items, no_items, item}
+use Rattle.toml.specs.Data.{Members, no_members, member}
+use Rattle.toml.specs.Text.{IsDocumentText}
+use Rattle.account_book.specs.Account.{Account, stated}
+use Rattle.lobby_model.specs.Configuration.{Configuration, configuration}
+use Rattle.lobby_setup.specs.Answers.{Tells}
+use Rattle.lobby_setup.specs.Choices.{Choices}
+use Rattle.lobby_setup.specs.declared.error.Refusal.{Refusal}
+use Rattle.lobby_setup.specs.declared.error.SetupFault.{SetupFault}
+use Rattle.lobby_setup.specs.declared.error.SetupFault.TheVariants.{Memory, Unusable}
+use Rattle.lobby_setup.specs.declared.setup.Setup.{Setup}
+use Rattle.record_lines.specs.Masks.{all_hidden}
 
--- a byte of a text between quotation marks
-abbrev pub quoted_byte : ℕ → List ℕ
-quoted_byte b =
-    if b == 34 || b == 92 then 92 ∷ b ∷ []
-    else (if is_control b then 92 ∷ 117 ∷ 48 ∷ 48 ∷ hexadecimal_digits b
-    else b ∷ [])
+-- the members of a table with one more, at its place, or with another value for one that was there
+abbrev pub with_member : List ℕ → Data → Members → Members
+with_member key value no_members = member key value no_members
+with_member key value (member first other rest) =
+    match_ordering (slice_cmp nat_cmp key first) (member key value (member first other rest)) (member first value rest)
+    (member first other (with_member key value rest))
 
-unfoldable pub quoted_bytes : List ℕ → List ℕ
-quoted_bytes = flat_map quoted_byte
+abbrev pub text_items : List (List ℕ) → Items
+text_items [] = no_items
+text_items (text ∷ texts) = item (string text) (text_items texts)
 
-abbrev pub quoted : List ℕ → List ℕ
-quoted text = 34 ∷ (quoted_bytes text ++ 34 ∷ [])
+-- what a file of settings says that sets a lobby up to these, and listens nowhere
+abbrev pub settings_members : Configuration → Members
+settings_members settings =
+    member (codes "address") (string (codes "0.0.0.0:0"))
+    (member (codes "motd") (array (text_items settings.motd))
+    (member (codes "outbox_limit") (integer (pos settings.outbox_limit))
+    (member (codes "protocol_version") (string settings.protocol_version)
+    (member (codes "server_mode") (integer (pos settings.server_mode))
+    (member (codes "spring_version") (string settings.spring_version)
+    (member (codes "udp_port") (integer (pos settings.udp_port)) no_members))))))
 
--- a key and its value, in a line
-abbrev pub field : List ℕ → List ℕ → List ℕ
-field key value = key ++ (32 ∷ 61 ∷ 32 ∷ (value ++ 10 ∷ []))
+-- settings as a file can say them: texts of a file are UTF-8
+abbrev pub spelled : Configuration → Configuration
+spelled settings =
+    configuration (utf8_lossy settings.protocol_version) (utf8_lossy settings.spring_version) settings.udp_port
+    settings.server_mode (map utf8_lossy settings.motd) settings.outbox_limit
 
-abbrev pub flag_text : Bool → List ℕ
-flag_text flag = if flag then codes "true" else codes "false"
+-- the answer is a setup with these settings
+abbrev pub HasSettings : Configuration → Result Choices Refusal → Type 0
+HasSettings settings (Ok choices) = choices.settings ≡ settings
+HasSettings settings (Err refusal) = ⊥
 
--- an account as a file of accounts lists it, with the word that each account of a record has
-abbrev pub account_text : Account → List ℕ
-account_text account =
-    (codes "[[account]]" ++ 10 ∷ [])
-    ++ (field (codes "name") (quoted account.name)
-    ++ (field (codes "password") (quoted passes)
-    ++ (field (codes "id") (decimal account.id)
-    ++ (field (codes "rank") (decimal account.rank)
-    ++ (field (codes "access") (flag_text account.access)
-    ++ (field (codes "bot") (flag_text account.bot)
-    ++ field (codes "country") (quoted account.country)))))))
+-- A file of settings that sets a lobby up to these: whatever it tells is that
+abbrev pub SetsUp : Configuration → List ℕ → Type 0
+SetsUp settings file = (answer : Result Choices Refusal) → Tells file answer → HasSettings settings answer
 
--- texts, each with a comma behind it
-unfoldable pub listed : List (List ℕ) → List ℕ
-listed = flat_map (λ text. quoted text ++ 44 ∷ [])
+-- what a server reads of such a file: these settings, if memory is not refused
+abbrev pub ReadsSettings : Configuration → Result Setup SetupFault → Type 0
+ReadsSettings settings (Ok setup) = setup.settings ≡ settings
+ReadsSettings settings (Err (Unusable refusal)) = ⊥
+ReadsSettings settings (Err Memory) = ⊤
 
--- a file of settings that says these, and listens nowhere
-abbrev pub settings_text : Configuration → List ℕ
-settings_text settings =
-    field (codes "address") (quoted (codes "0.0.0.0:0"))
-    ++ (field (codes "outbox_limit") (decimal settings.outbox_limit)
-    ++ (field (codes "protocol_version") (quoted settings.protocol_version)
-    ++ (field (codes "spring_version") (quoted settings.spring_version)
-    ++ (field (codes "udp_port") (decimal settings.udp_port)
-    ++ (field (codes "server_mode") (decimal settings.server_mode)
-    ++ field (codes "motd") (91 ∷ (listed settings.motd ++ 93 ∷ [])))))))
+-- from space to `~`
+abbrev pub is_printed : ℕ → Bool
+is_printed byte = nat_le 32 byte && nat_le byte 126
+
+-- a line of comment
+abbrev pub comment_line : List ℕ → List ℕ
+comment_line words = 35 ∷ (words ++ 10 ∷ [])
+
+-- what a file of accounts says of one
+abbrev pub account_members : Account → Members
+account_members account =
+    member (codes "access") (boolean account.access)
+    (member (codes "bot") (boolean account.bot)
+    (member (codes "country") (string account.country)
+    (member (codes "id") (integer (pos account.id))
+    (member (codes "name") (string account.name)
+    (member (codes "password") (string account.password)
+    (member (codes "rank") (integer (pos account.rank)) no_members))))))
+
+abbrev pub account_items : List Account → Items
+account_items [] = no_items
+account_items (account ∷ accounts) = item (table (account_members account)) (account_items accounts)
+
+-- what a file of accounts says
+abbrev pub accounts_members : List Account → Members
+accounts_members [] = no_members
+accounts_members (account ∷ accounts) =
+    member (codes "account") (array (account_items (account ∷ accounts))) no_members
+
+-- an account as a file can say it
+abbrev pub spelled_account : Account → Account
+spelled_account account =
+    stated (utf8_lossy account.name) account.password account.id account.rank account.access account.bot
+    (utf8_lossy account.country)
+
+-- A file of TOML that lists these accounts, each with the word that each account of a record has
+abbrev pub IsAccountsText : List Account → List ℕ → Type 0
+IsAccountsText accounts text =
+    IsDocumentText false (accounts_members (all_hidden accounts)) text × IsTrue (is_utf8 text)
+
+-- an empty line stands before what comes behind a table
+abbrev pub gap_behind : List ℕ → List ℕ
+gap_behind [] = []
+gap_behind (byte ∷ bytes) = 10 ∷ []

@@ -18,9 +18,9 @@ mod said;
 
 pub use entry::put_entry;
 pub use fault::RecordFault;
-pub use head::{put_account, put_settings};
+pub use head::{accounts_file, put_account, settings_file};
 pub use laws::{
-    a_record_puts_the_same_bytes, each_login_is_answered_as_it_was,
-    what_stands_for_unread_lines_is_unread,
+    a_head_is_read_as_it_was, a_record_is_played_as_it_was, a_record_puts_the_same_bytes,
+    each_login_is_answered_as_it_was, what_stands_for_unread_lines_is_unread,
 };
 pub use masks::{FAILS, Masks, PASSES};

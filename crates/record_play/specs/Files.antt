@@ -43,6 +43,10 @@ pub record IsFile (file : ℕ) (text : List ℕ) (of : FileLines) : Type 0 where
   pub counted : map (λ (l : RecordLine). l.number) of.lines ≡ range_with_len 1 (length of.lines)
   pub rises : IsNonDecreasingBy (λ (l : RecordLine). l.place) of.lines
 
+-- it has no such lines
+abbrev pub IsNoFile : ℕ → List ℕ → Type 0
+IsNoFile file text = (of : FileLines) → IsFile file text of → ⊥
+
 -- those of all files, file by file
 abbrev pub all_lines : List FileLines → List RecordLine
 all_lines [] = []

@@ -1,9 +1,10 @@
 //! A file of a record, line by line.
 
-ghost use Rattle.std.specs.Prelude.{◌≡◌, ◌++◌, ◌^◌, ◌-◌, ◌⊎◌, ℕ, List, codes, IfOk, IfErr, IfSome, IsSomeAnd};
+ghost use Rattle.std.specs.Prelude.{◌≡◌, ◌≢◌, ◌++◌, ◌^◌, ◌-◌, ◌⊎◌, ◌≤◌, ◌<◌, ℕ, List, [], codes};
+ghost use Rattle.std.specs.Prelude.{IfOk, IfErr, IfSome, IfNone, IsSomeAnd};
 ghost use Rattle.proxy_line.specs.Words.{Finds};
-ghost use Rattle.record_play.specs.Files.{FileLines, HasPassed, HasPlace, IsFile, IsPlace, IsReach};
-ghost use Rattle.record_play.specs.declared.fault.RecordFault.TheVariants.{Hole};
+ghost use Rattle.record_play.specs.Files.{FileLines, HasPassed, HasPlace, IsFile, IsNoFile, IsPlace, IsReach};
+ghost use Rattle.record_play.specs.declared.fault.RecordFault.TheVariants.{BadLine, Memory};
 
 use crate::fault::RecordFault;
 use itoa::Buffer;
@@ -27,7 +28,7 @@ pub struct RecordLine<'a> {
 /// end. That is the place of its last line, or the last number where it ends with its server.
 ///
 /// What stands behind the last LF is a line that was not written to its end, and is left. `BadLine` where a line is no
-/// step at a place, or its place is before that of the line before it.
+/// step at a place, or its place is before that of the line before it: the text is no file of a record.
 pub fn add_lines<'a>(
     lines: &mut Vec<RecordLine<'a>>,
     file: usize,
@@ -35,33 +36,54 @@ pub fn add_lines<'a>(
 ) -> Result<u64, RecordFault>
     ensures listed { IfOk result (λ reach. (here : FileLines) × IsFile file text.now here
         × (lines.new.items ≡ lines.old.items ++ here.lines) × IsReach (λ place. HasPassed place here) reach) }
-    ensures other { IfErr result (λ e. (place : ℕ) → e ≡ Hole place → ⊥) }
+    ensures fault { IfErr result (λ e. (e ≡ Memory) ⊎ ((line : ℕ) × (e ≡ BadLine file line) × IsNoFile file text.now)) }
 {
     let mut rest = text;
     let mut number = 0u64;
     let mut least = 0u64;
     while let Some((line, behind)) = part_at(rest, b'\n') {
         number += 1;
-        if behind.is_empty() {
-            if let Some(why) = cause(line) {
-                return Ok(reach(why, least));
-            }
+        if let Some(why) = last_cause(line, behind) {
+            return Ok(reach(why, least));
         }
-        match place_before_step(line) {
-            Some((place, step)) if place >= least => {
-                lines.push(RecordLine {
-                    file,
-                    number,
-                    place,
-                    step,
-                })?;
-                least = place;
-            }
-            _ => return Err(RecordFault::BadLine { file, line: number }),
-        }
+        let Some((place, step)) = step_from(least, line) else {
+            return Err(RecordFault::BadLine { file, line: number });
+        };
+        lines.push(RecordLine {
+            file,
+            number,
+            place,
+            step,
+        })?;
+        least = place;
         rest = behind;
     }
     Ok(least)
+}
+
+/// Why there are no more lines, where this one tells it, and nothing is behind it.
+fn last_cause<'a>(line: &'a [u8], behind: &[u8]) -> Option<&'a [u8]>
+    ensures some { IfSome result (λ why. (behind.now ≡ []) × (line.now ≡ codes "end " ++ why.now)) }
+    ensures none { IfNone result ((why : List ℕ) → behind.now ≡ [] → line.now ≢ codes "end " ++ why) }
+{
+    if behind.is_empty() { cause(line) } else { None }
+}
+
+/// The place of a line and its step, where the place is no lower than this one.
+fn step_from(least: u64, line: &[u8]) -> Option<(u64, &[u8])>
+    ensures some { IfSome result (λ parts. HasPlace line.now parts.0 parts.1.now × (least ≤ parts.0)) }
+    ensures none { IfNone result ((place : ℕ) (step : List ℕ) → HasPlace line.now place step → place < least) }
+{
+    match place_before_step(line) {
+        Some((place, step)) => {
+            if place >= least {
+                Some((place, step))
+            } else {
+                None
+            }
+        }
+        None => None,
+    }
 }
 
 /// The reach of a file that ends so behind a line of this place.
@@ -77,7 +99,8 @@ fn reach(why: &[u8], last: u64) -> u64
 
 /// Why there are no more lines, where a line tells it.
 pub(crate) fn cause(line: &[u8]) -> Option<&[u8]>
-    ensures { IfSome result (λ why. line.now ≡ codes "end " ++ why.now) }
+    ensures some { IfSome result (λ why. line.now ≡ codes "end " ++ why.now) }
+    ensures none { IfNone result ((why : List ℕ) → line.now ≢ codes "end " ++ why) }
 {
     line.strip_prefix(b"end ".as_slice())
 }

@@ -3,8 +3,8 @@
 ghost use Rattle.std.specs.Prelude.{◌≡◌, ◌≤◌, ◌<◌, ℕ, IfOk, IfErr, length, take, drop};
 ghost use Rattle.std.specs.List.{AllByRecursion};
 ghost use Rattle.std.specs.List.Sorted.{IsNonDecreasingBy};
-ghost use Rattle.record_play.specs.Joined.{IsHole, Joins, Rises};
-ghost use Rattle.record_play.specs.declared.fault.RecordFault.TheVariants.{Hole};
+ghost use Rattle.record_play.specs.Joined.{IsFaultOf, IsShared, Joins, Rises};
+ghost use Rattle.record_play.specs.declared.fault.RecordFault.TheVariants.{TwoOfOnePlace};
 
 use crate::fault::RecordFault;
 use crate::file::{RecordLine, add_lines};
@@ -24,9 +24,10 @@ pub struct Joined<'a> {
 /// `BadLine` where a line is no step at a place, or its place is before that of the line before it in its file;
 /// `TwoOfOnePlace` where lines of two files have one place; `Hole` where a place is missing that each file has passed:
 /// it was written, and is gone. Where a file may have lost it with its end, the first missing place is the end.
+/// The only other fault is that memory was refused.
 pub fn join<'a>(alloc: Global, files: &[&'a [u8]]) -> Result<Joined<'a>, RecordFault>
     ensures joins { IfOk result (λ joined. Joins files.now joined.lines.items joined.missing) }
-    ensures hole { IfErr result (λ e. (place : ℕ) → e ≡ Hole place → IsHole files.now place) }
+    ensures fault { IfErr result (IsFaultOf files.now) }
 {
     let mut lines = Vec::new(alloc);
     let mut reach = u64::MAX;
@@ -51,7 +52,8 @@ fn front(lines: &[RecordLine<'_>]) -> Result<(usize, u64), RecordFault>
     ensures rises { IfOk result (λ r. Rises 0 0 (take r.0 lines.now) r.1) }
     ensures above { IfOk result (λ r. AllByRecursion (λ (l : RecordLine). r.1 < l.place) (drop r.0 lines.now)) }
     ensures within { IfOk result (λ r. (r.0 ≤ length lines.now) × (r.1 ≤ r.0)) }
-    ensures other { IfErr result (λ e. (place : ℕ) → e ≡ Hole place → ⊥) }
+    ensures fault { IfErr result (λ e. (file : ℕ) × (line : ℕ) × (other : ℕ) × (e ≡ TwoOfOnePlace file line other)
+        × IsShared lines.now file line other) }
 {
     let mut count = 0;
     let mut missing = 0u64;

@@ -1,8 +1,8 @@
 //! Which lines of a record stand behind which.
 
-ghost use Rattle.std.specs.Prelude.{◌≡◌, ◌⊎◌, ◌∷◌, ◌++◌, [], ℕ, List, false, codes, IfSome};
+ghost use Rattle.std.specs.Prelude.{◌≡◌, ◌≢◌, ◌↔◌, ◌∷◌, ◌++◌, [], ℕ, List, false, codes, IfSome, IfNone, IsTrue};
 ghost use Rattle.line_words.specs.Bytes.{has_byte};
-ghost use Rattle.record_play.specs.Leaving.{IsSent, LeavesOut};
+ghost use Rattle.record_play.specs.Leaving.{AreLines, IsCause, IsSent, LastIs, LastIsNot, LeavesLast, LeavesOut};
 
 use crate::fault::RecordFault;
 use crate::file::{RecordLine, cause, place_before_step};
@@ -11,7 +11,8 @@ use proxy_line::part_at;
 
 /// The client of which a step sends a line, as it is written.
 fn sender(step: &[u8]) -> Option<&[u8]>
-    ensures { IfSome result (λ client. (bytes : List ℕ) × (step.now ≡ codes "send " ++ (client.now ++ 32 ∷ bytes))) }
+    ensures some { IfSome result (λ client. (bytes : List ℕ) × (step.now ≡ codes "send " ++ (client.now ++ 32 ∷ bytes))) }
+    ensures none { IfNone result ((client bytes : List ℕ) → step.now ≢ codes "send " ++ (client ++ 32 ∷ bytes)) }
 {
     let (client, _) = part_at(step.strip_prefix(b"send ".as_slice())?, b' ')?;
     Some(client)
@@ -65,6 +66,7 @@ fn bad(line: &RecordLine<'_>) -> RecordFault {
 /// The text up to its last LF, and what stands behind that.
 fn last_line(text: &[u8]) -> (&[u8], &[u8])
     ensures whole { text.now ≡ result.0.now ++ result.1.now }
+    ensures lines { AreLines result.0.now }
     ensures rest { has_byte 10 result.1.now ≡ false }
 {
     let start = match memrchr(b'\n', text) {
@@ -76,34 +78,52 @@ fn last_line(text: &[u8]) -> (&[u8], &[u8])
 
 /// What stands before an LF at the end.
 fn before_lf(lines: &[u8]) -> Option<&[u8]>
-    ensures { IfSome result (λ text. lines.now ≡ text.now ++ 10 ∷ []) }
+    ensures some { IfSome result (λ text. lines.now ≡ text.now ++ 10 ∷ []) }
+    ensures none { IfNone result ((text : List ℕ) → lines.now ≢ text ++ 10 ∷ []) }
 {
     lines.strip_suffix(b"\n".as_slice())
 }
 
+/// Whether a line tells that a record ended before its server.
+fn is_cause(line: &[u8]) -> bool
+    ensures { IsTrue result ↔ IsCause line.now }
+{
+    match cause(line) {
+        Some(why) if why == b"stop".as_slice() => false,
+        Some(_) => true,
+        None => false,
+    }
+}
+
 /// What stands before the last line, where it tells that a record ended before its server; else all lines.
 fn before_cause(lines: &[u8]) -> &[u8]
-    ensures { (lines.now ≡ result.now)
-        ⊎ ((why : List ℕ) × (lines.now ≡ result.now ++ (codes "end " ++ (why ++ 10 ∷ []))) × (has_byte 10 why ≡ false)) }
+    ensures { LeavesLast IsCause lines.now result.now }
 {
     let Some(text) = before_lf(lines) else {
         return lines;
     };
     let (before, last) = last_line(text);
-    match cause(last) {
-        Some(why) if why != b"stop".as_slice() => before,
-        Some(_) | None => lines,
+    if is_cause(last) { before } else { lines }
+}
+
+/// Whether bytes are sent by a line.
+fn is_sent(line: &[u8]) -> bool
+    ensures { IsTrue result ↔ IsSent line.now }
+{
+    match place_before_step(line) {
+        Some((_, step)) => sender(step).is_some(),
+        None => false,
     }
 }
 
 /// What stands before the last line, where bytes are sent by it.
 fn before_sent(lines: &[u8]) -> Option<&[u8]>
-    ensures { IfSome result (λ before. (line : List ℕ) × (lines.now ≡ before.now ++ (line ++ 10 ∷ [])) × IsSent line) }
+    ensures some { IfSome result (λ before. LastIs IsSent lines.now before.now) }
+    ensures none { IfNone result (LastIsNot IsSent lines.now) }
 {
-    let (before, last) = last_line(before_lf(lines)?);
-    let (_, step) = place_before_step(last)?;
-    sender(step)?;
-    Some(before)
+    let text = before_lf(lines)?;
+    let (before, last) = last_line(text);
+    if is_sent(last) { Some(before) } else { None }
 }
 
 /// The lines of a file up to its last whole event, and the one behind them that says why there are no more. Behind that

@@ -1,16 +1,16 @@
 //! A record that is played.
 
-ghost use Rattle.std.specs.Prelude.{◌≡◌, ℕ, IfOk, IfErr, OnOk, List};
-ghost use Rattle.account_book.specs.Account.{Account};
-ghost use Rattle.lobby_model.specs.Configuration.{Configuration};
-ghost use Rattle.record_play.specs.Joined.{IsHole, Joins};
-ghost use Rattle.record_play.specs.Replays.{IsPlayed};
-ghost use Rattle.record_play.specs.declared.fault.RecordFault.TheVariants.{Hole};
+ghost use Rattle.std.specs.Prelude.{◌≡◌, ◌≤◌, ◌<◌, IfOk, IfErr, IfSome, IfNone, OnOk, OnErr};
+ghost use Rattle.std.specs.Prelude.{Some, length, slice_get};
+ghost use Rattle.record_play.specs.Joined.{IsFaultOf, Joins};
+ghost use Rattle.record_play.specs.Replays.{GoesOn, HasPlayedBefore, IsPlayed, PlaysNext};
+ghost use Rattle.record_play.specs.declared.file.RecordLine.{RecordLine};
 
 use crate::fault::RecordFault;
 use crate::file::RecordLine;
 use crate::joining::{Joined, join};
-use crate::playing::play_lines;
+use crate::order::{begins, ends, follows};
+use crate::playing::play_step;
 use account_book::AccountBook;
 use client_view::{View, ViewError};
 use lobby_hall::Hall;
@@ -45,7 +45,7 @@ impl<'a> Replay<'a> {
     ) -> Result<Replay<'a>, RecordFault>
         ensures joins { IfOk result (λ replay. Joins files.now replay.lines.items replay.missing) }
         ensures played { IfOk result (λ replay. IsPlayed replay settings accounts) }
-        ensures hole { IfErr result (λ e. (place : ℕ) → e ≡ Hole place → IsHole files.now place) }
+        ensures fault { IfErr result (IsFaultOf files.now) }
     {
         let hall = Hall::new(alloc, settings, accounts)?;
         match join(alloc, files) {
@@ -71,18 +71,67 @@ impl<'a> Replay<'a> {
         self.missing
     }
 
-    /// Plays on, up to the events before this place.
+    /// Plays on, up to the events before this place. A line that is refused is not played, and one that was played is
+    /// not played again: who asks once more goes on behind those that were played.
     pub fn play_until(&mut self, place: u64) -> Result<(), RecordFault>
-        ensures lines { self.new.lines ≡ self.old.lines }
-        ensures played { OnOk result ((settings : Configuration) (accounts : List Account)
-            → IsPlayed self.old settings accounts → IsPlayed self.new settings accounts) }
+        ensures goes_on { GoesOn place self.old self.new }
+        ensures all { OnOk result (HasPlayedBefore place self.new) }
     {
-        let end = self.lines.partition_point(|line| line.place < place);
-        if end > self.played {
-            play_lines(self.alloc, &mut self.hall, &self.lines[self.played..end])?;
-            self.played = end;
+        while let Some(line) = self.next_before(place) {
+            self.play_next(line)?;
         }
-        Ok(())
+        self.ends_before(place)
+    }
+
+    /// The next line to be played, where it is before this place.
+    fn next_before(&self, place: u64) -> Option<RecordLine<'a>>
+        ensures some { IfSome result (λ line. (line.place < place)
+            × (slice_get self.now.lines.items self.now.played ≡ Some line)) }
+        ensures none { IfNone result ((line : RecordLine)
+            → slice_get self.now.lines.items self.now.played ≡ Some line → place ≤ line.place) }
+    {
+        match self.lines.get(self.played) {
+            Some(line) if line.place < place => Some(*line),
+            Some(_) | None => None,
+        }
+    }
+
+    /// Plays the next line, which is this one.
+    fn play_next(&mut self, line: RecordLine<'a>) -> Result<(), RecordFault>
+        requires next { slice_get self.old.lines.items self.old.played ≡ Some line }
+        requires within { self.old.played < length self.old.lines.items }
+        ensures ok { OnOk result (PlaysNext self.old line.entry self.new) }
+        ensures err { OnErr result (self.new ≡ self.old) }
+    {
+        self.in_order(&line)?;
+        match play_step(self.alloc, &mut self.hall, line.step) {
+            Ok(()) => {
+                self.played += 1;
+                Ok(())
+            }
+            Err(fault) => Err(fault.at(line.file, line.number)),
+        }
+    }
+
+    /// The line that was played last.
+    fn last_played(&self) -> Option<&RecordLine<'a>> {
+        self.lines.get(self.played.checked_sub(1)?)
+    }
+
+    /// Refuses a line that may not stand behind those that were played.
+    fn in_order(&self, line: &RecordLine<'_>) -> Result<(), RecordFault> {
+        match self.last_played() {
+            Some(before) => follows(before, line),
+            None => begins(line),
+        }
+    }
+
+    /// Refuses a last line before this place with which no event ends.
+    fn ends_before(&self, place: u64) -> Result<(), RecordFault> {
+        match self.last_played() {
+            Some(last) if last.place < place => ends(last),
+            Some(_) | None => Ok(()),
+        }
     }
 
     /// Writes the lines that were put for a client since it was last shown, each behind its number.

@@ -11,5 +11,5 @@ returns-clause-settings c =
     let few : length (lines_of (items_view c.in_ok-motd_field.field-0.now)) ≤ 100 = omega (arith, lines.0) in
     configuration_allowed c.in_ok-version_field.field-0.now c.in_ok-version_field-2.field-0.now _ _ _ _
     c.in_ok-version_field.ensures.version c.in_ok-version_field-2.ensures.version
-    c.in_ok-number_field-3.ensures.within.1 c.in_ok-number_field-4.ensures.within.1 few lines.1
-    c.in_ok-number_field-2.ensures.within.0 c.in_ok-number_field-2.ensures.within.1
+    c.in_ok-port_field.ensures.within c.in_ok-mode_field.ensures.within few lines.1
+    c.in_ok-outbox_field.ensures.within.0 c.in_ok-outbox_field.ensures.within.1

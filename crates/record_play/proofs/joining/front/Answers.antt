@@ -1,5 +1,7 @@
-use Rattle.std.proofs.Common.{ℕ, ◌≡◌, ◌+◌, ◌-◌, ◌<◌, ap, sym, ◌∙◌, subst, arith, List, [], length, take, drop, get_or}
+use Rattle.std.proofs.Common.{ℕ, refl, ◌≡◌, ◌+◌, ◌-◌, ◌<◌, ap, sym, ◌∙◌, subst, arith, List, [], length, take, drop, get_or, inl, inr}
+use Rattle.std.proofs.lemmas.Bool.{cases_lt}
 use Rattle.std.proofs.lemmas.List.{get_or_default, get_or-drop}
+use Rattle.std.proofs.lemmas.List.Elements.{Contains-get_or}
 use Rattle.std.proofs.lemmas.List.Sorted.{IsNonDecreasingBy-drop}
 use Rattle.record_play.specs.declared.file.RecordLine.{RecordLine}
 use Rattle.record_play.proofs.Rising.{leads_rises, up_at, on_at, place_before, all_above}
@@ -27,6 +29,13 @@ last_place lines i missing d low e =
     let here : i + 1 - 1 ≡ i = omega arith in
     rw (here, same) e
 
+last_file : (lines : List RecordLine) (i file : ℕ) (d : RecordLine) → i < length lines
+    → (get_or lines i nothing).file ≡ file → (get_or lines (i + 1 - 1) d).file ≡ file
+last_file lines i file d low e =
+    let same = get_or_default lines i d nothing low in
+    let here : i + 1 - 1 ≡ i = omega arith in
+    rw (here, same) e
+
 pub loop-line-preserved : goal.loop-line-preserved
 loop-line-preserved c = elim c.if-line-missing-2.branch [
   | then-line-missing-2 w ↦
@@ -38,7 +47,8 @@ loop-line-preserved c = elim c.if-line-missing-2.branch [
         up_at c.args.lines.now c.loop-line.line-index c.loop-line.missing c.loop-line.file nothing low so_far.1 e,
         omega (arith, so_far.2),
         (λ z. absurd (omega (arith, z))),
-        λ d _. last_place c.args.lines.now c.loop-line.line-index (c.loop-line.missing + 1) d low (ap (λ n. n + 1) e),
+        (λ d _. last_place c.args.lines.now c.loop-line.line-index (c.loop-line.missing + 1) d low (ap (λ n. n + 1) e)),
+        λ d _. last_file c.args.lines.now c.loop-line.line-index _ d low refl,
       )
   | else-line-missing-2+else-line-file w ↦
       let so_far = c.loop-line.invariant in
@@ -51,7 +61,8 @@ loop-line-preserved c = elim c.if-line-missing-2.branch [
         on_at c.args.lines.now c.loop-line.line-index c.loop-line.missing c.loop-line.file nothing low so_far.1 e w.if-line-file.false,
         omega (arith, so_far.2),
         (λ z. absurd (omega (arith, z))),
-        λ d _. last_place c.args.lines.now c.loop-line.line-index c.loop-line.missing d low e,
+        (λ d _. last_place c.args.lines.now c.loop-line.line-index c.loop-line.missing d low e),
+        λ d _. last_file c.args.lines.now c.loop-line.line-index c.loop-line.file d low w.if-line-file.false,
       )
 ]
 
@@ -66,3 +77,31 @@ returns-then-line-missing-clause-above c =
     rw so_far.0 (all_above c.loop-line.missing (drop i lines) (IsNonDecreasingBy-drop (λ (l : RecordLine). l.place) i lines c.requires)
     (λ d _. subst (λ (l : RecordLine). c.loop-line.missing < l.place)
     (sym (first_of lines i d ∙ get_or_default lines i d nothing c.loop-line-test.true)) c.if-line-missing.true))
+
+pub returns-then-line-file-clause-fault : goal.returns-then-line-file-clause-fault
+returns-then-line-file-clause-fault c =
+    let so_far = c.loop-line.invariant in
+    let i = c.loop-line.line-index in
+    let lines = c.args.lines.now in
+    let low = c.loop-line-test.true in
+    let other = c.if-line-missing-2.false in
+    let below = c.if-line-missing.false in
+    let e = place_before lines i c.loop-line.missing nothing c.requires low so_far.3 so_far.4 (omega (arith, other, below)) in
+    let some : 0 < i = elim (cases_lt 0 i) [
+      | inl pos ↦ pos
+      | inr z ↦ let m = so_far.3 (omega (arith, z)) in absurd (omega (arith, m, e))
+    ] in
+    let before = so_far.4 nothing some in (
+      (get_or lines i nothing).file,
+      (get_or lines i nothing).number,
+      c.loop-line.file,
+      refl,
+      record {
+        one = get_or lines i nothing;
+        two = get_or lines (i - 1) nothing;
+        one_is = (Contains-get_or lines i nothing low, refl, refl);
+        two_is = (Contains-get_or lines (i - 1) nothing (omega (arith, low)), so_far.5 nothing some);
+        place = omega (arith, e, before);
+        files = c.if-line-file.true;
+      },
+    )

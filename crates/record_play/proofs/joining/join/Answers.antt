@@ -1,12 +1,16 @@
-use Rattle.std.proofs.Common.{◌≡◌, ◌<◌, ◌≤◌, ◌^◌, ◌-◌, ℕ, List, [], ◌∷◌, ◌++◌, ◌+◌, length, length-take, take, drop, refl, sym, subst, ◌∙◌, ap, arith, append-nil, append_assoc, rules}
+use Rattle.std.proofs.Common.{◌≡◌, ◌<◌, ◌≤◌, ◌^◌, ◌-◌, ◌⊎◌, inl, inr, ℕ, zero, suc, Some, get_or, List, [], ◌∷◌, ◌++◌, ◌+◌, length, length-take, take, drop, refl, sym, subst, ◌∙◌, ap, arith, append-nil, append_assoc, rules}
 use Rattle.std.specs.Borrow.{Bor}
-use Rattle.std.specs.List.{AllByRecursion}
+use Rattle.std.specs.Prelude.{slice_get}
+use Rattle.std.specs.List.{AllByRecursion, Contains}
 use Rattle.std.specs.List.Sorted.{IsPermutation, IsStableByKey}
 use Rattle.std.specs.Ordering.{nat_cmp}
 use Rattle.std.proofs.lemmas.List.{drop_more, drop_all, take_all, take-append-drop}
-use Rattle.std.proofs.lemmas.List.Sorted.{IsNonDecreasingBy-from_sort_by_key, answers_always, length_permutation}
-use Rattle.record_play.specs.Files.{FileLines, ListFiles, all_lines}
-use Rattle.record_play.specs.Joined.{IsHole, IsJoined, Rises}
+use Rattle.std.proofs.lemmas.List.Sorted.{IsNonDecreasingBy-from_sort_by_key, answers_always, length_permutation, IsPermutation-sym, Contains-permutation}
+use Rattle.std.proofs.lemmas.Result.{err_from_is_err_and}
+use Rattle.record_play.specs.Files.{FileLines, IsNoFile, ListFiles, all_lines}
+use Rattle.record_play.specs.Joined.{IsFaultOf, IsJoined, IsShared, Rises}
+use Rattle.record_play.specs.declared.fault.RecordFault.{RecordFault}
+use Rattle.record_play.specs.declared.fault.RecordFault.TheVariants.{BadLine, Memory}
 use Rattle.record_play.specs.declared.file.RecordLine.{RecordLine}
 use Rattle.record_play.proofs.Listing.{all_lines-more, reach_both}
 use Rattle.record_play.proofs.Rising.{joined}
@@ -48,6 +52,40 @@ listed_all texts done i file over known =
     subst (λ (f : List FileLines). ListFiles 0 texts f) (append-nil done)
     (known [] (subst (λ (rest : List (Bor (List ℕ))). ListFiles file rest []) (sym (drop_all i texts over)) refl))
 
+-- an element that is there
+at_some : (texts : List (Bor (List ℕ))) (i : ℕ) → i < length texts → slice_get texts i ≡ Some (get_or texts i no_text)
+at_some [] i low = absurd (omega (arith, low))
+at_some (t ∷ texts) zero low = refl
+at_some (t ∷ texts) (suc i) low = at_some texts i (omega (arith, low))
+
+fault_of : (texts : List (Bor (List ℕ))) (file i : ℕ) (e : RecordFault) → file ≡ i → i < length texts
+    → ((e ≡ Memory) ⊎ ((line : ℕ) × (e ≡ BadLine file line) × IsNoFile file (get_or texts i no_text).now)) → IsFaultOf texts e
+fault_of texts file i e same low (inl none) = subst (IsFaultOf texts) (sym none) tt
+fault_of texts file i e same low (inr bad) =
+    subst (IsFaultOf texts) (sym bad.1)
+    (get_or texts i no_text, subst (λ k. slice_get texts k ≡ Some (get_or texts i no_text)) (sym same) (at_some texts i low), bad.2)
+
+-- lines that two files share, before they were sorted
+shared_of : (lines sorted here : List RecordLine) (files : List FileLines) (file line other : ℕ) → lines ≡ all_lines files
+    → IsPermutation lines sorted → here ≡ sorted → IsShared here file line other → IsShared (all_lines files) file line other
+shared_of lines sorted here files file line other from permutation same shared =
+    let back : IsPermutation sorted (all_lines files) =
+    subst (λ (l : List RecordLine). IsPermutation sorted l) from (IsPermutation-sym lines sorted permutation) in record {
+      one = shared.one;
+      two = shared.two;
+      one_is = (
+        Contains-permutation sorted (all_lines files) shared.one back (subst (λ (l : List RecordLine). Contains l shared.one) same shared.one_is.0),
+        shared.one_is.1,
+        shared.one_is.2,
+      );
+      two_is = (
+        Contains-permutation sorted (all_lines files) shared.two back (subst (λ (l : List RecordLine). Contains l shared.two) same shared.two_is.0),
+        shared.two_is.1,
+      );
+      place = shared.place;
+      files = shared.files;
+    }
+
 -- all lines, those of the files, in the order of their places, and those of them before the first that is missing
 record Given (lines sorted : List RecordLine) (files : List FileLines) (count missing : ℕ) : Type 0 where
   from : lines ≡ all_lines files
@@ -87,8 +125,8 @@ less_given lines sorted files count missing g less =
     let of = ap (λ (l : List RecordLine). length l) g.from in
     omega (arith, size, of, g.many, less)
 
-pub returns-then-missing-reach-clause-hole : goal.returns-then-missing-reach-clause-hole
-returns-then-missing-reach-clause-hole c =
+pub returns-then-missing-reach-clause-fault : goal.returns-then-missing-reach-clause-fault
+returns-then-missing-reach-clause-fault c =
     let so_far = c.loop-text.invariant in
     let known = so_far.1 in
     let sorted = c.sort_by_key.new.self.items in
@@ -97,10 +135,7 @@ returns-then-missing-reach-clause-hole c =
     let g : Given c.loop-text.lines.items sorted known.0 count missing = given_of c.loop-text.lines.items sorted c.deref.result.now known.0 count missing known.1
     c.in_ok-sort_by_key.ensures.permutation (c.in_ok-sort_by_key.ensures.stable (λ (l : RecordLine). l.place) (answers_always _ _ _ (λ f a r f' k. search rules)))
     c.deref.ensures.value c.in_ok-count.ensures.rises c.in_ok-count.ensures.above in
-    let less : count < length sorted = omega (arith, c.if-count-len.true, c.len.ensures) in
-    λ place e.
-    let same : missing ≡ place = cc in
-    subst (λ p. IsHole c.args.files.now p) same (
+    let less : count < length sorted = omega (arith, c.if-count-len.true, c.len.ensures) in (
       known.0,
       listed_all c.args.files.now known.0 c.loop-text.text-index c.loop-text.file c.loop-text-test.false known.3,
       (known.2 missing (omega (arith, less, c.in_ok-count.ensures.within))).1 c.if-missing-reach.true,
@@ -132,3 +167,26 @@ returns-clause-joins c =
             (omega (arith, w.if-count-len.false, c.len.ensures))
       ],
     )
+
+pub returns-in_err-add_lines-clause-fault : goal.returns-in_err-add_lines-clause-fault
+returns-in_err-add_lines-clause-fault c =
+    let so_far = c.loop-text.invariant in
+    let fault = fault_of c.args.files.now c.loop-text.file c.loop-text.text-index c.in_err-add_lines.field-0.0 so_far.0 c.loop-text-test.true
+    c.in_err-add_lines.ensures.fault in
+    let error = err_from_is_err_and c.from_residual.result c.from_residual.ensures.1 in
+    rw (error.1, error.2) fault
+
+pub returns-in_err-count-clause-fault : goal.returns-in_err-count-clause-fault
+returns-in_err-count-clause-fault c =
+    let so_far = c.loop-text.invariant in
+    let known = so_far.1 in
+    let two = c.in_err-count.ensures.fault in
+    let fault : IsFaultOf c.args.files.now c.in_err-count.field-0.0 =
+    subst (IsFaultOf c.args.files.now) (sym two.3) (
+      known.0,
+      listed_all c.args.files.now known.0 c.loop-text.text-index c.loop-text.file c.loop-text-test.false known.3,
+      shared_of c.loop-text.lines.items c.sort_by_key.new.self.items c.deref.result.now known.0 two.0 two.1 two.2 known.1
+          c.in_ok-sort_by_key.ensures.permutation c.deref.ensures.value two.4,
+    ) in
+    let error = err_from_is_err_and c.from_residual-in_err-count.result c.from_residual-in_err-count.ensures.1 in
+    rw (error.1, error.2) fault

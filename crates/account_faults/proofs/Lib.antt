@@ -1,0 +1,2 @@
+pub mod FirstFault
+pub mod Places
