@@ -369,6 +369,7 @@ func TestMetrics(t *testing.T) {
 	c.reads("PONG\nPONG\n")
 	g.knock(STLS).ends(greeting)
 	g.logs("cause=handshake_late")
+	g.until("one connection is left", func() bool { return g.numbers.Connections.Load() == 1 })
 	var page strings.Builder
 	g.numbers.Write(&page)
 	text := page.String()
