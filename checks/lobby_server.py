@@ -79,11 +79,19 @@ class Account:
         return f"LOGIN {self.name} {WORD} 0 * Checks 1.0\n"
 
 
-class Server:
-    """A server that runs until `stop`, in an environment that has these words more. One with an output of its own is not read. It tells
-    operators as much as `log` says, and to the file `errors`, if there is one."""
+def limit(files, addresses):
+    """Limits the files that this process may open, and the bytes of its addresses, where a number is given."""
+    for what, most in ((resource.RLIMIT_NOFILE, files), (resource.RLIMIT_AS, addresses)):
+        if most:
+            resource.setrlimit(what, (most, resource.getrlimit(what)[1]))
 
-    def __init__(self, workers, accounts, settings="", port=0, files=0, output=None, log="none", errors=None, **words):
+
+class Server:
+    """A server that runs until `stop`, in an environment that has these words more. One with an output of its own is not read. It may open
+    so many `files`, and have so many megabytes of `addresses`. It tells operators as much as `log` says, and to the file `errors`, if there
+    is one."""
+
+    def __init__(self, workers, accounts, settings="", port=0, files=0, output=None, log="none", errors=None, addresses=0, **words):
         self.folder = tempfile.TemporaryDirectory(prefix="lobby-check-")
         self.port, self.is_stopped, self.workers, self.counts, self.log = port or free_port(), False, workers, [], log
         room = Path(self.folder.name)
@@ -93,8 +101,7 @@ class Server:
         (room / "accounts.toml").write_text("\n".join(it.table() for it in accounts))
         call = [program("LOBBY_MAIN", "lobby_main"), "serve", str(room / "settings.toml"), str(room / "accounts.toml")]
         self.errors = errors or (room / "errors").open("w+b")
-        how = {"preexec_fn": lambda: resource.setrlimit(resource.RLIMIT_NOFILE, (files, files))} if files else {}
-        how["env"] = {**os.environ, **words}
+        how = {"env": {**os.environ, **words}, "preexec_fn": lambda: limit(files, addresses * 1_048_576)}
         self.process = subprocess.Popen(call, stdin=subprocess.PIPE, stdout=output or subprocess.PIPE, stderr=self.errors, **how)
         if not self.listens():
             self.process.kill()

@@ -16,8 +16,9 @@ from pathlib import Path
 
 ROOT = Path(__file__).resolve().parent.parent
 CHECKS = ["rows.sh", "programs.sh", "serve.sh", "proxy.py", "log.py", "stopping.py", "record.py", "record_tool.py",
-          "accounts.py", "scarce.sh", "files.sh", "package.sh", "gateway.sh", "links.py", "definitions.py", "widths.py",
-          "header.py", "views.sh", "memory.sh", "memory_bounds.sh", "refused_memory.sh", "library.py", "python.sh"]
+          "accounts.py", "scarce.sh", "short_memory.py", "files.sh", "package.sh", "gateway.sh", "links.py", "definitions.py",
+          "widths.py", "header.py", "views.sh", "memory.sh", "memory_bounds.sh", "refused_memory.sh", "library.py",
+          "python.sh"]
 # What the proof of a crate may take from nothing, in seconds of a processor: most crates, and any. The table names each that takes more.
 # One that takes half as much again as any may fails the gate.
 BUDGET, LIMIT = 300, 400

@@ -1,3 +1,4 @@
 pub mod Channels
 pub mod Book
 pub mod Places
+pub mod Kept

@@ -8,6 +8,8 @@
 mod book;
 mod error;
 mod lists;
+mod lone;
+mod many;
 mod members;
 mod places;
 

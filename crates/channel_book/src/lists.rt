@@ -55,7 +55,7 @@ impl<M: Copy> Lists<M> {
         ensures ordered { IsStrictlySortedBy name_cmp (keys_of self.old) }
     {
         if let Some(members) = self.channels.get_mut(&channel) {
-            members.add(user, key)?;
+            members.add(self.alloc, user, key)?;
             return Ok(());
         }
         let members = Members::one(self.alloc, user, key)?;

@@ -6,8 +6,7 @@ ghost use Rattle.line_framer.specs.Framed.{next_line};
 ghost use Rattle.client_session.specs.OneSession.{AcceptsNext};
 ghost use Rattle.client_session.specs.Sessions.{Heard, IsNext, KeepsKinds, NeedsMemory, has_next};
 
-use command_grammar::Request;
-use command_reader::{LINE_LIMIT, read_request};
+use command_grammar::{LINE_LIMIT, Request, read_request};
 use line_framer::{FeedError, Framer};
 use std::alloc::{AllocError, Global};
 use std::marker::Model;

@@ -10,3 +10,4 @@ pub mod ArgumentBounds
 pub mod Lines
 pub mod Examples
 pub mod Bounds
+pub mod Whole

@@ -3,8 +3,7 @@
 use crate::lists::are;
 use crate::verdict::{same, same_for};
 use account_book::{Account, AccountBook};
-use command_grammar::{Command, ReadFault, Request};
-use command_reader::read_request;
+use command_grammar::{Command, ReadFault, Request, read_request};
 use line_words::TextBuf;
 use lobby_model::{Event, MadeEvent, Settings};
 use lobby_setup::Setup;

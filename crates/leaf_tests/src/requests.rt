@@ -2,8 +2,7 @@
 
 use crate::lists::are;
 use crate::verdict::{same, same_for};
-use command_grammar::{Command, ReadFault, Request};
-use command_reader::read_request;
+use command_grammar::{Command, ReadFault, Request, read_request};
 use line_words::{PairList, TextBuf, WordBuf, WordList};
 use request_printer::{PrintError, print_request};
 use std::alloc::Global;

@@ -9,7 +9,7 @@ use account_book::AccountBook;
 use lobby_model::Settings;
 use lobby_setup::{CLIENT_LIMIT, FileError, Setup, accounts_of, read_file, settings_at};
 use lobby_workers::{
-    Gate, HashSeed, Log, Masks, Record, ServerError, Service, run_server_recorded,
+    Gate, HashSeed, Log, Made, Masks, Pass, Record, ServerError, Service, run_server_recorded,
 };
 use mio::net::TcpListener;
 use program_help::VERSION;
@@ -26,7 +26,21 @@ use std::thread::Threads;
 struct OpenGate;
 
 impl Gate for OpenGate {
+    ghost use Rattle.std.specs.Prelude.{false, ⊤};
+
+    ghost wants = { λ gate. false };
+
+    ghost handed = { λ gate made. ⊤ };
+
     fn before_take(&self, _worker: u8) {}
+
+    fn wants_events(&self) -> bool {
+        false
+    }
+
+    fn made(&self, made: Made) -> Pass {
+        made.pass()
+    }
 
     fn after_write(&self, _worker: u8, _bytes: &[u8]) {}
 

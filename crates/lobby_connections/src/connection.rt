@@ -21,9 +21,7 @@ pub struct Connection {
     pub(crate) is_left: bool,
     // a poll told that the other side ended
     is_ending: bool,
-    // a poll told that its link is gone
-    is_gone: bool,
-    // its link is gone and memory was refused since
+    // the other side ended or the link failed, and memory was refused since
     is_over: bool,
 }
 
@@ -37,7 +35,6 @@ impl Connection {
             round,
             is_left: false,
             is_ending: false,
-            is_gone: false,
             is_over: false,
         }
     }
@@ -45,7 +42,6 @@ impl Connection {
     /// Notes what a poll told of its link.
     pub(crate) fn note(&mut self, event: &Event) {
         self.is_ending |= event.is_read_closed() || event.is_write_closed();
-        self.is_gone |= event.is_write_closed();
         self.link.note(event);
     }
 
@@ -55,19 +51,21 @@ impl Connection {
         self.is_ending || self.link.last_sent() == Some(Sent::Later)
     }
 
-    /// Whether its client is only to be shut, and no more to be served: its link is gone, and memory was refused since.
+    /// Whether its client is only to be shut, and no more to be served: the other side ended or the link failed, and
+    /// memory was refused since.
     pub fn is_over(&self) -> bool
         ensures { result ≡ self.now.is_over }
     {
         self.is_over
     }
 
-    /// Memory was refused in its turn. Whether its link is gone: then it is over from now on.
+    /// Memory was refused in its turn. Whether the other side has ended or the link has failed: then it is over from
+    /// now on.
     pub fn refuse(&mut self) -> bool
         ensures over { result ≡ self.new.is_over }
         ensures stays { self.old.is_over ≡ true → self.new.is_over ≡ true }
     {
-        self.is_over |= self.is_gone || has_failed(&self.link);
+        self.is_over |= self.is_ending || has_failed(&self.link);
         self.is_over
     }
 }

@@ -26,11 +26,12 @@ use std::mem;
 /// The most names that are taken in a hold, so that no other worker waits long for the lobby.
 pub const NAMES_IN_HOLD: usize = 64;
 
-/// The most pieces that a turn tells, and one line's more, where its worker has the lobby for itself.
-const TURN: u64 = 2_000;
+/// The most bytes that a turn tells, and one line's more, where its worker has the lobby for itself: two thousand
+/// short lines.
+const TURN: u64 = 128_000;
 
-/// The most pieces that a round tells, and one turn's more, where its worker has the lobby for itself.
-const ROUND: u64 = 8_000;
+/// The most bytes that a round tells, and one turn's more, where its worker has the lobby for itself.
+const ROUND: u64 = 512_000;
 
 /// The connections of a worker, each under the key that its events bear. A worker goes round again
 /// and again, and gives each connection one turn in a round at most.
@@ -289,14 +290,14 @@ impl Connections {
         self.served < self.due()
     }
 
-    /// How many pieces a turn may tell before it says no line more that may tell others.
+    /// How many bytes a turn may tell before it says no line more that may tell others.
     pub fn turn_most(&self) -> u64
         ensures { result ≡ self.now.turn_most }
     {
         self.turn_most
     }
 
-    /// How many pieces the next turn of this round may tell.
+    /// How many bytes the next turn of this round may tell.
     pub fn allowance(&self) -> u64
         ensures { result ≡ min (self.now.round_most - self.now.told) self.now.turn_most }
     {
@@ -304,7 +305,7 @@ impl Connections {
         left.min(self.turn_most)
     }
 
-    /// How many pieces the next turn of this round may tell where nobody else is left over: all that is left of the
+    /// How many bytes the next turn of this round may tell where nobody else is left over: all that is left of the
     /// round, and a turn's at least.
     pub fn lone_allowance(&self) -> u64
         ensures { result ≡ max (self.now.round_most - self.now.told) self.now.turn_most }
@@ -313,7 +314,7 @@ impl Connections {
         left.max(self.turn_most)
     }
 
-    /// Turns of this round told so many pieces, or cost as much. The count stays at its most, 2^64 - 1.
+    /// Turns of this round told so many bytes, or cost as much. The count stays at its most, 2^64 - 1.
     pub fn count_told(&mut self, told: u64)
         ensures { self.new ≡ record self.old { told = min (self.old.told + told) (2 ^ 64 - 1) } }
     {
@@ -401,6 +402,11 @@ impl Connections {
     /// The connection under a key.
     pub fn at(&self, key: usize) -> Option<&Connection> {
         self.slab.get(key)
+    }
+
+    /// The connection under a key, whose turn goes on.
+    pub fn in_turn(&mut self, key: usize) -> Option<&mut Connection> {
+        self.slab.get_mut(key)
     }
 
     /// The connection under a key, whose turn of this round begins, with buffers that are lent to it. None where there

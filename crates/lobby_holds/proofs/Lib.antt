@@ -6,5 +6,6 @@ pub mod Parts
 pub mod Spaces
 pub mod Drains
 pub mod Talks
+pub mod Counted
 pub mod Sayings
 pub mod Kept

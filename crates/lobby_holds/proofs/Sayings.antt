@@ -1,5 +1,5 @@
 -- How lines are said to the lobby in a hold, one after another.
-use Rattle.std.proofs.Common.{◌≡◌, ◌⊎◌, ℕ, ◌+◌, ◌≤◌, true, false, List, [], ◌∷◌, ◌++◌, length, refl, sym, ap, ◌∙◌, subst, inl, inr, arith, length-append, true≢false}
+use Rattle.std.proofs.Common.{◌≡◌, ◌⊎◌, ℕ, ◌+◌, ◌-◌, ◌%◌, ◌^◌, ◌<◌, ◌≤◌, true, false, List, [], ◌∷◌, ◌++◌, length, refl, sym, ap, ◌∙◌, subst, inl, inr, arith, length-append, true≢false}
 use Rattle.std.proofs.Math.Bool.{or-false}
 use Rattle.std.specs.Prelude.{◌||◌, Bool, Option, Some, IfSome}
 use Rattle.command_grammar.specs.declared.command.Request.{Request}
@@ -14,23 +14,25 @@ use Rattle.client_session.specs.OneSession.{HasLineNext, IsNextOf}
 use Rattle.client_session.proofs.Lines.{asks_line}
 use Rattle.lobby_holds.specs.declared.holds.Said.{Said}
 use Rattle.lobby_holds.specs.Wire.{Wire}
-use Rattle.lobby_holds.specs.Moments.{Moment, moment, requests, touched}
+use Rattle.lobby_holds.specs.Moments.{Moment, moment, requests, told_behind, touched}
+use Rattle.lobby_holds.proofs.Counted.{counted_from_none, told_behind-append}
 use Rattle.lobby_holds.specs.Snapshot.{Carried, Snapshot, snapshot}
-use Rattle.lobby_holds.specs.Holds.{IsTaken, Made, AreSaid, SaysLines, HasNoLineNext, HasLoudNext, StopsAt, short, all_said, none_left, full, enough}
+use Rattle.lobby_holds.specs.Holds.{IsTaken, Made, AreSaid, SaysLines, HasNoLineNext, HasLoudNext, HasTold, StopsAt, short, all_said, none_left, full, enough}
 use Rattle.lobby_holds.proofs.Joins.{held_none}
 use Rattle.lobby_holds.proofs.Parts.{requests-append, went_none, went_then, went_held}
 use Rattle.lobby_holds.proofs.Talks.{are_talk-append, touched-append, calm-append}
 
-pub says_none : (a : Snapshot) (wakes : ℕ) → ((home : ℕ) → has_home wakes home ≡ false) → SaysLines a a 0 wakes
-says_none a wakes none = record {
+pub says_none : (a : Snapshot) (wakes told : ℕ) → ((home : ℕ) → has_home wakes home ≡ false) → SaysLines a a 0 wakes told told
+says_none a wakes told none = record {
   talk = [];
   went = went_none a;
-  said = record { own = tt; calm = refl; lines_are = refl; only = refl; wakes_are = none };
+  said = record { own = tt; calm = refl; lines_are = refl; only = refl; wakes_are = none; told_is = refl };
   unwritten = refl;
 }
 
-pub says_one : (a b : Snapshot) (request : Request) (wakes : ℕ) → Made a b (event.Say a.conn.session.client request) wakes → b.conn.unwritten ≡ a.conn.unwritten → SaysLines a b 1 wakes
-says_one a b request wakes m unwritten = record {
+pub says_one : (a b : Snapshot) (request : Request) (wakes before after : ℕ) → Made a b (event.Say a.conn.session.client request) wakes before after
+    → b.conn.unwritten ≡ a.conn.unwritten → SaysLines a b 1 wakes before after
+says_one a b request wakes before after m unwritten = record {
   talk = moment m.met (event.Say a.conn.session.client request) ∷ [];
   went = m.went;
   said = record {
@@ -39,13 +41,15 @@ says_one a b request wakes m unwritten = record {
     lines_are = refl;
     only = refl;
     wakes_are = λ home. m.wakes_are home ∙ sym (or-false (touches m.met (event.Say a.conn.session.client request) home));
+    told_is = m.told_is;
   };
   unwritten = unwritten;
 }
 
-said_then : (c : ℕ) (t u : List Moment) (m n wakes more all : ℕ) → AreSaid c t m wakes → AreSaid c u n more
-    → ((home : ℕ) → has_home all home ≡ (has_home wakes home || has_home more home)) → AreSaid c (t ++ u) (m + n) all
-said_then c t u m n wakes more all h k both = record {
+-- what was said and then what was said, of one client
+pub said_then : (c : ℕ) (t u : List Moment) (m n wakes more all x y z : ℕ) → AreSaid c t m wakes x y → AreSaid c u n more y z
+    → ((home : ℕ) → has_home all home ≡ (has_home wakes home || has_home more home)) → AreSaid c (t ++ u) (m + n) all x z
+said_then c t u m n wakes more all x y z h k both = record {
   own = are_talk-append c t u h.own k.own;
   calm = calm-append t u h.calm k.calm;
   lines_are = ap length (requests-append t u) ∙ length-append (requests t) (requests u) ∙ ap (λ x. x + length (requests u)) h.lines_are ∙ ap (λ x. m + x) k.lines_are;
@@ -55,27 +59,47 @@ said_then c t u m n wakes more all h k both = record {
       ∙ ap (λ x. x || has_home more home) (h.wakes_are home)
       ∙ ap (λ x. touched t home || x) (k.wakes_are home)
       ∙ sym (touched-append t u home);
+  told_is = told_behind-append x t u ∙ ap (λ told. told_behind told u) h.told_is ∙ k.told_is;
 }
 
-pub says_then : (a b c : Snapshot) (m n wakes more all : ℕ) → SaysLines a b m wakes → SaysLines b c n more → ((home : ℕ) → has_home all home ≡ (has_home wakes home || has_home more home)) → SaysLines a c (m + n) all
-says_then a b c m n wakes more all h k both = record {
+pub says_then : (a b c : Snapshot) (m n wakes more all x y z : ℕ) → SaysLines a b m wakes x y → SaysLines b c n more y z
+    → ((home : ℕ) → has_home all home ≡ (has_home wakes home || has_home more home)) → SaysLines a c (m + n) all x z
+says_then a b c m n wakes more all x y z h k both = record {
   talk = h.talk ++ k.talk;
   went = went_then a b c h.talk k.talk h.went k.went;
-  said = said_then a.conn.session.client h.talk k.talk m n wakes more all h.said (subst (λ (x : ℕ). AreSaid x k.talk n more) h.went.client k.said) both;
+  said = said_then a.conn.session.client h.talk k.talk m n wakes more all x y z h.said (subst (λ (d : ℕ). AreSaid d k.talk n more y z) h.went.client k.said) both;
   unwritten = k.unwritten ∙ h.unwritten;
 }
 
 -- a refused line leaves what there was
-pub says_still : (a : Snapshot) (x y : Carried) (wire : Wire) (h k : ShownHold) (lines wakes : ℕ) → (y ≡ x) × (k ≡ h) → SaysLines a (snapshot x wire (pass_after h)) lines wakes
-    → SaysLines a (snapshot y wire (pass_after k)) lines wakes
-says_still a x y wire h k lines wakes same s =
-    subst (λ (z : Carried × ShownHold). SaysLines a (snapshot z.0 wire (pass_after z.1)) lines wakes) (λ i. (sym same.0 i, sym same.1 i)) s
+pub says_still : (a : Snapshot) (x y : Carried) (wire : Wire) (h k : ShownHold) (lines wakes before after : ℕ) → (y ≡ x) × (k ≡ h)
+    → SaysLines a (snapshot x wire (pass_after h)) lines wakes before after → SaysLines a (snapshot y wire (pass_after k)) lines wakes before after
+says_still a x y wire h k lines wakes before after same s =
+    subst (λ (z : Carried × ShownHold). SaysLines a (snapshot z.0 wire (pass_after z.1)) lines wakes before after) (λ i. (sym same.0 i, sym same.1 i)) s
+
+-- the lobby's count went on from x to y, which were read as numbers of 64 bits
+pub says_counted : (a b : Snapshot) (lines wakes x y before now told : ℕ) → before ≡ x → now ≡ y → before < 2 ^ 64
+    → told ≡ (now + (2 ^ 64 - before)) % 2 ^ 64 → SaysLines a b lines wakes x y → SaysLines a b lines wakes 0 told
+says_counted a b lines wakes x y before now told first last small is s = record {
+  talk = s.talk;
+  went = s.went;
+  said = record {
+    own = s.said.own;
+    calm = s.said.calm;
+    lines_are = s.said.lines_are;
+    only = s.said.only;
+    wakes_are = s.said.wakes_are;
+    told_is = counted_from_none before now s.talk small (ap (λ n. told_behind n s.talk) first ∙ s.said.told_is ∙ sym last) ∙ sym is;
+  };
+  unwritten = s.unwritten;
+}
 
 -- the whole hold, from the take to the give
-pub says_held : (old new : Carried) (wire : Wire) (p q : ShownPass) (h k : ShownHold) (lines wakes : ℕ) → IsTaken p h → q ≡ pass_after k
-    → SaysLines (snapshot old wire (pass_after h)) (snapshot new wire (pass_after k)) lines wakes → SaysLines (snapshot old wire p) (snapshot new wire q) lines wakes
-says_held old new wire p q h k lines wakes taken is s =
-    subst (λ (x : ShownPass). SaysLines (snapshot old wire p) (snapshot new wire x) lines wakes) (sym is) (record {
+pub says_held : (old new : Carried) (wire : Wire) (p q : ShownPass) (h k : ShownHold) (lines wakes before after : ℕ) → IsTaken p h → q ≡ pass_after k
+    → SaysLines (snapshot old wire (pass_after h)) (snapshot new wire (pass_after k)) lines wakes before after
+    → SaysLines (snapshot old wire p) (snapshot new wire q) lines wakes before after
+says_held old new wire p q h k lines wakes before after taken is s =
+    subst (λ (x : ShownPass). SaysLines (snapshot old wire p) (snapshot new wire x) lines wakes before after) (sym is) (record {
       talk = s.talk;
       went = went_then (snapshot old wire p) (snapshot old wire (pass_after h)) (snapshot new wire (pass_after k)) [] s.talk (went_held old wire p (pass_after h) (held_none p (pass_after h) h h taken refl refl)) s.went;
       said = s.said;
@@ -88,8 +112,8 @@ says_held old new wire p q h k lines wakes taken is s =
 pub refused_line : (x y : Carried) (request : Request) → y ≡ x → IsNextOf (Some x.session) (Line request) → HasLineNext y.session
 refused_line x y request same next = subst (λ (z : Carried). HasLineNext z.session) (sym same) (asks_line x.session request next)
 
-pub stops_none : (most allowance : ℕ) (is_enough : Bool) (session : Serving) (said : Said) (events : List Event) → said.refused ≡ false → length events ≡ said.lines → said.lines ≤ 32
-    → (is_enough ≡ true → allowance ≤ said.told)
+pub stops_none : (most : ℕ) (allowance : Option ℕ) (is_enough : Bool) (session : Serving) (said : Said) (events : List Event) → said.refused ≡ false → length events ≡ said.lines → said.lines ≤ 32
+    → (is_enough ≡ true → HasTold allowance said.told)
     → (32 ≤ length events) ⊎ (HasNoLineNext session ⊎ ((is_enough ≡ true) × HasLoudNext session)) → StopsAt most allowance session said
 stops_none most allowance is_enough session said events accepted lines few told (inl many) = full accepted (omega (arith, lines, few, many))
 stops_none most allowance is_enough session said events accepted lines few told (inr (inl none)) = none_left accepted none
@@ -100,7 +124,7 @@ pub loud_is_line : (session : Serving) → HasLoudNext session → HasLineNext s
 loud_is_line session loud = asks_line session loud.0 loud.1
 
 -- what a hold stopped at refused tells what is next
-pub stays_next : (most allowance : ℕ) (session : Serving) (said : Said) → StopsAt most allowance session said → said.refused ≡ true → HasLineNext session
+pub stays_next : (most : ℕ) (allowance : Option ℕ) (session : Serving) (said : Said) → StopsAt most allowance session said → said.refused ≡ true → HasLineNext session
 stays_next most allowance session said (short refused next) is = next
 stays_next most allowance session said (all_said accepted e) is = absurd (true≢false (sym is ∙ accepted))
 stays_next most allowance session said (none_left accepted e) is = absurd (true≢false (sym is ∙ accepted))

@@ -1,5 +1,6 @@
 -- What a hold of a turn did.
-use Rattle.std.specs.Prelude.{◌≡◌, ◌⊎◌, ℕ, ◌<◌, ◌≤◌, Bool, true, false, List, [], ◌∷◌, ◌++◌, length, take, Some}
+use Rattle.std.specs.Prelude.{◌≡◌, ◌⊎◌, ℕ, ◌<◌, ◌≤◌, Bool, true, false, List, [], ◌∷◌, ◌++◌, length, take, Option}
+use Rattle.std.specs.Prelude.{Some, None}
 use Rattle.command_grammar.specs.declared.command.Command.{Command}
 use Rattle.command_grammar.specs.declared.command.Command.TheVariants as command
 use Rattle.command_grammar.specs.declared.command.Request.{Request}
@@ -18,7 +19,9 @@ use Rattle.client_session.specs.OneSession.{HasLineNext, IsNextOf}
 use Rattle.client_session.specs.Sessions.{Heard, IsNext}
 use Rattle.lobby_holds.specs.declared.holds.Said.{Said}
 use Rattle.lobby_holds.specs.declared.holds.Chunk.{Chunk}
-use Rattle.lobby_holds.specs.Moments.{Moment, moment, requests, questions, drained_for, touched, tells_end, told_end}
+use Rattle.lobby_holds.specs.Moments.{Moment, moment, requests, questions, drained_for, touched, tells_end, told_behind}
+use Rattle.lobby_holds.specs.Moments.{told_end}
+use Rattle.lobby_machine.specs.Work.{told_on}
 use Rattle.lobby_holds.specs.Snapshot.{Snapshot}
 use Rattle.lobby_holds.specs.Talk.{AreDrains, AreTalk, BeginsWith, EndsDry}
 use Rattle.lobby_holds.specs.Went.{Joined, Went}
@@ -37,25 +40,28 @@ pub record IsTaken (pass : ShownPass) (held : ShownHold) : Type 0 where
 abbrev pub Stands : ShownHold → Type 0
 Stands held = held.lobby.plain ≡ lobby_after held.pass held.events
 
--- it made this event, which touched the clients of these workers
-pub record Made (old new : Snapshot) (e : Event) (wakes : ℕ) : Type 0 where
+-- it made this event, which touched the clients of these workers, and a count of what was told went on by it
+pub record Made (old new : Snapshot) (e : Event) (wakes before after : ℕ) : Type 0 where
   pub met : State
   pub went : Went old new (moment met e ∷ [])
   pub wakes_are : IsWakes met e wakes
+  pub told_is : told_on before met e ≡ after
 
--- so many lines of client c were said to the lobby, and they touched the clients of these workers
-pub record AreSaid (c : ℕ) (talk : List Moment) (lines wakes : ℕ) : Type 0 where
+-- so many lines of client c were said to the lobby, they touched the clients of these workers, and a count of what was
+-- told went on by them
+pub record AreSaid (c : ℕ) (talk : List Moment) (lines wakes before after : ℕ) : Type 0 where
   pub own : AreTalk c talk
   pub calm : told_end talk ≡ false
   pub lines_are : length (requests talk) ≡ lines
   pub only : length talk ≡ lines
   pub wakes_are : (home : ℕ) → has_home wakes home ≡ touched talk home
+  pub told_is : told_behind before talk ≡ after
 
 -- it said so many of the next lines to the lobby
-pub record SaysLines (old new : Snapshot) (lines wakes : ℕ) : Type 0 where
+pub record SaysLines (old new : Snapshot) (lines wakes before after : ℕ) : Type 0 where
   pub talk : List Moment
   pub went : Went old new talk
-  pub said : AreSaid old.conn.session.client talk lines wakes
+  pub said : AreSaid old.conn.session.client talk lines wakes before after
   pub unwritten : new.conn.unwritten ≡ old.conn.unwritten
 
 -- at most so many lines, and no more than one hold has place for; and one at least unless memory was refused
@@ -83,15 +89,21 @@ is_quiet other = false
 abbrev pub HasLoudNext : Serving → Type 0
 HasLoudNext session = (request : Request) × IsNextOf (Some session) (Line request) × (is_quiet request.command ≡ false)
 
+-- as much was told as may be, where there is a bound
+abbrev pub HasTold : Option ℕ → ℕ → Type 0
+HasTold None told = ⊥
+HasTold (Some most) told = most ≤ told
+
 -- Why it said no line more: memory was refused for the line that is next, or nothing was refused, and all that were
--- asked for were said, no whole line is next, the hold is full, or as many pieces were told as may be and the line that
--- is next is not quiet
-pub data StopsAt (most allowance : ℕ) (session : Serving) (said : Said) : Type 0 where
+-- asked for were said, no whole line is next, the hold is full, or as much was told as may be and the line that is next
+-- is not quiet
+pub data StopsAt (most : ℕ) (allowance : Option ℕ) (session : Serving) (said : Said) : Type 0 where
   short : said.refused ≡ true → HasLineNext session → StopsAt most allowance session said
   all_said : said.refused ≡ false → said.lines ≡ most → StopsAt most allowance session said
   none_left : said.refused ≡ false → HasNoLineNext session → StopsAt most allowance session said
   full : said.refused ≡ false → said.lines ≡ 32 → StopsAt most allowance session said
-  enough : said.refused ≡ false → allowance ≤ said.told → HasLoudNext session → StopsAt most allowance session said
+  enough : said.refused ≡ false → HasTold allowance said.told → HasLoudNext session
+      → StopsAt most allowance session said
 
 -- it drained for its client, eight times at most and never into an empty slice: whether nothing will ever come of it;
 -- where it is dry, the last drain gave nothing

@@ -1,5 +1,5 @@
 -- What a worker did in a part of the history: its events, each with the plain lobby that it met.
-use Rattle.std.specs.Prelude.{ℕ, zero, suc, Bool, false, ◌==◌, if◌then◌else◌, List, [], ◌∷◌, flat_map}
+use Rattle.std.specs.Prelude.{ℕ, zero, suc, ◌+◌, Bool, false, ◌==◌, if◌then◌else◌, List, [], ◌∷◌, flat_map}
 use Rattle.std.specs.List.{list_any}
 use Rattle.command_grammar.specs.declared.command.Request.{Request}
 use Rattle.lobby_model.specs.declared.event.Event.{Event}
@@ -8,6 +8,7 @@ use Rattle.lobby_model.specs.State.{State}
 use Rattle.lobby_model.specs.Next.{next, taken_by}
 use Rattle.lobby_model.specs.Touched.{touches}
 use Rattle.lobby_machine.specs.Shown.{is_finished}
+use Rattle.lobby_machine.specs.Work.{told_on, work}
 use Rattle.lobby_lock.specs.History.{Entry}
 
 pub record Moment : Type 0 where
@@ -51,6 +52,16 @@ drained_for c turn = flat_map (λ m. taken_by m.met m.event c) turn
 -- whether clients of this worker gained bytes or were cut
 abbrev pub touched : List Moment → ℕ → Bool
 touched turn home = list_any (λ m. touches m.met m.event home) turn
+
+-- how much work they were
+abbrev pub work_of : List Moment → ℕ
+work_of [] = 0
+work_of (m ∷ turn) = work m.met m.event + work_of turn
+
+-- what a count of what was told comes to behind them
+abbrev pub told_behind : ℕ → List Moment → ℕ
+told_behind told [] = told
+told_behind told (m ∷ turn) = told_behind (told_on told m.met m.event) turn
 
 -- whether a drain said that nothing will ever come of its client
 abbrev pub tells_end : State → Event → Bool

@@ -1,7 +1,7 @@
 //! Where a turn takes the lobby, and gives it back.
 
-ghost use Rattle.std.specs.Prelude.{◌≡◌, []};
-ghost use Rattle.lobby_lock.specs.Passes.{pass_after};
+ghost use Rattle.std.specs.Prelude.{◌≡◌, [], true};
+ghost use Rattle.lobby_lock.specs.Passes.{made_in, pass_after};
 ghost use Rattle.lobby_holds.specs.Holds.{IsTaken, Stands};
 
 use crate::gate::Gate;
@@ -30,16 +30,16 @@ impl<G: Gate> GatedDesk<'_, G> {
         self.desk.take(rt, pass)
     }
 
-    /// Gives the lobby back, and then hands the gate the events of the hold, if it wants them and they were kept.
+    /// Gives the lobby back, and then hands the gate just the events of the hold, if it wants them and they were kept.
     pub fn give<R: Wait>(&self, rt: &R, held: Held) -> Pass
         requires { held.pass.desk ≡ self.now.desk.now }
-        ensures { result ≡ pass_after held }
+        ensures pass { result ≡ pass_after held }
+        ensures handed { G.wants self.now.gate.now ≡ true
+            → G.handed self.now.gate.now (record { pass = pass_after held; events = made_in held }) }
     {
         if !self.gate.wants_events() {
             return held.give(rt, self.desk);
         }
-        let made = held.lay_down(rt, self.desk);
-        self.gate.made(made.worker(), made.events());
-        made.pass()
+        self.gate.made(held.lay_down(rt, self.desk))
     }
 }

@@ -13,7 +13,7 @@ ghost use Rattle.lobby_holds.specs.Wire.{Wire};
 ghost use Rattle.lobby_holds.specs.Snapshot.{snapshot};
 ghost use Rattle.lobby_holds.specs.Went.{Went};
 ghost use Rattle.lobby_holds.specs.Holds.{Stands, Made, SaysLines, IsWithin, HasNoLineNext, HasLoudNext, StopsAt};
-ghost use Rattle.lobby_holds.specs.Holds.{is_quiet, Drains, Asks, DrainedInto, DrainedBehind, GivesUp};
+ghost use Rattle.lobby_holds.specs.Holds.{is_quiet, HasTold, Drains, Asks, DrainedInto, DrainedBehind, GivesUp};
 
 use crate::buffer::{Buffer, PIECE};
 use crate::conn::Conn;
@@ -40,7 +40,7 @@ pub struct Said {
     pub wakes: Wakes,
     /// Whether memory was refused behind them. The line that it was refused for stays next.
     pub refused: bool,
-    /// How many pieces they told.
+    /// How much they told, as the lobby counts it.
     pub told: u64,
 }
 
@@ -69,7 +69,7 @@ fn say_line<G: Gate>(
     requires next { IsNextOf (Some conn.old.session) (Line request) }
     ensures ok { IfOk result (λ wakes. (wire : Wire)
         → Made (snapshot conn.old wire (pass_after held.old)) (snapshot conn.new wire (pass_after held.new))
-        (event.Say conn.old.session.client request) wakes) }
+        (event.Say conn.old.session.client request) wakes held.old.lobby.told held.new.lobby.told) }
     ensures unwritten { conn.new.unwritten ≡ conn.old.unwritten }
     ensures count { OnOk result (length held.new.events ≡ length held.old.events + 1) }
     ensures err { OnErr result ((conn.new ≡ conn.old) × (held.new ≡ held.old)) }
@@ -105,7 +105,7 @@ fn say_next<G: Gate>(
 ) -> Result<Option<Wakes>, AllocError>
     ensures says { IfOk result (λ said. IfSome said (λ wakes. (wire : Wire)
         → SaysLines (snapshot conn.old wire (pass_after held.old)) (snapshot conn.new wire (pass_after held.new)) 1
-        wakes)) }
+        wakes held.old.lobby.told held.new.lobby.told)) }
     ensures count { IfOk result (λ said. IfSome said (λ wakes.
         (length held.new.events ≡ length held.old.events + 1) × (length held.new.events ≤ MOST_EVENTS))) }
     ensures none { IfOk result (λ said. said ≡ None → (conn.new ≡ conn.old) × (held.new ≡ held.old)) }
@@ -135,6 +135,16 @@ fn say_next<G: Gate>(
     }
 }
 
+/// Whether as much was told as may be, where there is a bound.
+fn has_told(allowance: Option<u64>, told: u64) -> bool
+    ensures { result ≡ true → HasTold allowance told }
+{
+    match allowance {
+        Some(most) => most <= told,
+        None => false,
+    }
+}
+
 /// Says the next lines to the lobby in a new hold, of which the first was read as this request.
 fn say_lines<G: Gate>(
     conn: &mut Conn,
@@ -142,7 +152,7 @@ fn say_lines<G: Gate>(
     gate: &G,
     request: Request,
     most: usize,
-    allowance: u64,
+    allowance: Option<u64>,
 ) -> Said
     requires new { held.old.events ≡ [] }
     requires stands { Stands held.old }
@@ -150,7 +160,7 @@ fn say_lines<G: Gate>(
     requires next { IsNextOf (Some conn.old.session) (Line request) }
     requires some { 1 ≤ most }
     ensures says { (wire : Wire) → SaysLines (snapshot conn.old wire (pass_after held.old))
-        (snapshot conn.new wire (pass_after held.new)) result.lines result.wakes }
+        (snapshot conn.new wire (pass_after held.new)) result.lines result.wakes 0 result.told }
     ensures within { IsWithin most result }
     ensures stops { StopsAt most allowance conn.new.session result }
     ensures pass { held.new.pass ≡ held.old.pass }
@@ -169,7 +179,7 @@ fn say_lines<G: Gate>(
     };
     for lines in 1..most {
         let told = held.told().wrapping_sub(before);
-        match say_next(conn, held, gate, told >= allowance) {
+        match say_next(conn, held, gate, has_told(allowance, told)) {
             Ok(Some(more)) => wakes = wakes.union(more),
             Ok(None) => {
                 return Said {
@@ -198,7 +208,7 @@ fn say_lines<G: Gate>(
 }
 
 /// Says the next lines to the lobby in one hold, so many at most, of which the first was read as this
-/// request. The others are read in the hold.
+/// request. The others are read in the hold, as long as they tell less than the allowance, if there is one.
 pub fn say<R: Wait, G: Gate>(
     rt: &R,
     conn: &mut Conn,
@@ -206,14 +216,14 @@ pub fn say<R: Wait, G: Gate>(
     pass: Pass,
     request: Request,
     most: usize,
-    allowance: u64,
+    allowance: Option<u64>,
 ) -> (Pass, Said)
     requires desk { pass.desk ≡ desk.now.desk.now }
     requires kinds { IsTrue (keeps_kinds request.command) }
     requires next { IsNextOf (Some conn.old.session) (Line request) }
     requires some { 1 ≤ most }
     ensures says { (wire : Wire) → SaysLines (snapshot conn.old wire pass) (snapshot conn.new wire result.0)
-        result.1.lines result.1.wakes }
+        result.1.lines result.1.wakes 0 result.1.told }
     ensures within { IsWithin most result.1 }
     ensures stops { StopsAt most allowance conn.new.session result.1 }
 {
@@ -372,7 +382,7 @@ pub fn give_up_unread<R: Wait, G: Gate>(
     pass
 }
 
-/// Shuts the client.
+/// Shuts the client. Says how much that told, too, as the lobby counts it.
 pub fn shut<R: Wait, G: Gate>(
     rt: &R,
     conn: &Conn,
@@ -382,9 +392,10 @@ pub fn shut<R: Wait, G: Gate>(
     requires { pass.desk ≡ desk.now.desk.now }
     ensures ok { IfOk result.1 (λ wakes. (wire : Wire)
         → Made (snapshot conn.now wire pass) (snapshot conn.now wire result.0) (event.Shut conn.now.session.client)
-        wakes) }
+        wakes 0 result.2) }
     ensures err { OnErr result.1 ((wire : Wire)
         → Went (snapshot conn.now wire pass) (snapshot conn.now wire result.0) []) }
+    ensures untold { OnErr result.1 (result.2 ≡ 0) }
 {
     let mut held = desk.take(rt, pass);
     let before = held.told();
@@ -393,6 +404,6 @@ pub fn shut<R: Wait, G: Gate>(
     let pass = desk.give(rt, held);
     match shut {
         Ok(wakes) => (pass, Ok(wakes), told),
-        Err(error) => (pass, Err(error), told),
+        Err(error) => (pass, Err(error), 0),
     }
 }

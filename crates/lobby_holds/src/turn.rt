@@ -22,6 +22,4 @@ pub struct Turn {
     pub state: TurnState,
     /// The workers whose clients gained bytes or were cut by what this turn said to the lobby.
     pub wakes: Wakes,
-    /// How many pieces the turn's events told.
-    pub told: u64,
 }

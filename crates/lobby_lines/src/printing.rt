@@ -8,7 +8,7 @@ use crate::error::RequestError;
 use crate::fields::{FieldRow, HeadRow};
 use crate::request_arguments::put_arguments;
 use crate::request_table::row_of;
-use command_reader::LINE_LIMIT;
+use command_grammar::LINE_LIMIT;
 use reply_printer::pieces::{put_end, put_id};
 use std::alloc::Global;
 

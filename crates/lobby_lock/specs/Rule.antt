@@ -80,7 +80,7 @@ pub record OneHistory (items : List Laid) (views : List View) : Type 0 where
 
 -- of a desk that was not opened yet
 abbrev pub no_lobby : Shown
-no_lobby = record { plain = empty_lobby (configuration [] [] 0 0 [] 0) []; dirty = [] }
+no_lobby = record { plain = empty_lobby (configuration [] [] 0 0 [] 0) []; dirty = []; told = 0 }
 
 abbrev pub new_worker : ℕ → List Entry → Worker
 new_worker number seen = record { number = number; seen = seen; mine = [] }

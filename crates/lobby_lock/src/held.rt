@@ -1,8 +1,9 @@
 //! A hold of the lobby.
 
 ghost use Rattle.std.specs.Prelude.{◌≡◌, ◌-◌, ◌<◌, ◌≤◌, ◌↔◌, ◌++◌, [], length, take, drop, min, OnOk, OnErr, IfNone};
-ghost use Rattle.std.specs.Prelude.{IfOk, IsTrue, false};
+ghost use Rattle.std.specs.Prelude.{IfOk, IsTrue, true, false, is_some};
 ghost use Rattle.command_grammar.specs.Kinds.{keeps_kinds};
+ghost use Rattle.line_words.specs.Table.{at_number};
 ghost use Rattle.lobby_model.specs.declared.event.Event.TheVariants as event;
 ghost use Rattle.lobby_model.specs.Sessions.{has_place};
 ghost use Rattle.lobby_model.specs.State.{hears};
@@ -10,6 +11,7 @@ ghost use Rattle.lobby_post.specs.Mail.{IsWakes};
 ghost use Rattle.lobby_machine.specs.Shown.{Applies, HasNoNumber, IsFull, IsNextNumber, KeepsOthers, ListsOpened};
 ghost use Rattle.lobby_machine.specs.Shown.{ListsTouched, Opens, TakesFirst, count_into, filled, dirty_at, unread_of};
 ghost use Rattle.lobby_machine.specs.Shown.{is_finished};
+ghost use Rattle.lobby_machine.specs.Work.{CountsOn};
 ghost use Rattle.lobby_lock.specs.Counts.{position_of};
 ghost use Rattle.lobby_lock.specs.Passes.{AddsEvent, lobby_after, made_in, pass_after};
 
@@ -75,6 +77,7 @@ impl Held {
         ensures ok { OnOk result (Opens self.old.lobby self.new.lobby ip home) }
         ensures dirty { IfOk result (λ number. ListsOpened self.old.lobby self.new.lobby home number) }
         ensures event { OnOk result (AddsEvent self.old self.new (event.Open ip home)) }
+        ensures told { self.new.lobby.told ≡ self.old.lobby.told }
         ensures full { (result ≡ Err OpenError.Full) ↔ IsFull self.old.lobby }
         ensures no_number { result ≡ Err OpenError.NoNumber → HasNoNumber self.old.lobby }
         ensures no_place { has_place self.old.lobby.plain ≡ false → result ≡ Err OpenError.Memory → ⊥ }
@@ -99,7 +102,9 @@ impl Held {
         ensures wakes { IfOk result (λ wakes. IsWakes self.old.lobby.plain (event.Say client request) wakes) }
         ensures dirty { OnOk result (ListsTouched self.old.lobby self.new.lobby (event.Say client request)) }
         ensures event { OnOk result (AddsEvent self.old self.new (event.Say client request)) }
+        ensures told { OnOk result (CountsOn self.old.lobby self.new.lobby (event.Say client request)) }
         ensures err { OnErr result (self.new ≡ self.old) }
+        ensures heard { OnErr result (hears self.old.lobby.plain client ≡ true) }
     {
         match self.lobby.say(client, &request) {
             Ok(wakes) => {
@@ -126,7 +131,9 @@ impl Held {
         ensures wakes { IfOk result (λ wakes. IsWakes self.old.lobby.plain (event.Shut client) wakes) }
         ensures dirty { OnOk result (ListsTouched self.old.lobby self.new.lobby (event.Shut client)) }
         ensures event { OnOk result (AddsEvent self.old self.new (event.Shut client)) }
+        ensures told { OnOk result (CountsOn self.old.lobby self.new.lobby (event.Shut client)) }
         ensures err { OnErr result (self.new ≡ self.old) }
+        ensures there { OnErr result (is_some (at_number self.old.lobby.plain.clients client) ≡ true) }
     {
         match self.lobby.shut(client) {
             Ok(wakes) => {
@@ -146,6 +153,7 @@ impl Held {
         ensures finished { result.finished ≡ is_finished self.new.lobby.plain client }
         ensures next { Applies self.old.lobby self.new.lobby (event.Drain client (length into.old)) }
         ensures dirty { self.new.lobby.dirty ≡ self.old.lobby.dirty }
+        ensures told { self.new.lobby.told ≡ self.old.lobby.told }
         ensures event { AddsEvent self.old self.new (event.Drain client (length into.old)) }
     {
         let count = into.len();
@@ -163,6 +171,7 @@ impl Held {
         ensures first { TakesFirst self.old.lobby self.new.lobby home result }
         ensures nobody { IfNone result (dirty_at self.old.lobby home ≡ []) }
         ensures others { KeepsOthers self.old.lobby self.new.lobby home }
+        ensures told { self.new.lobby.told ≡ self.old.lobby.told }
         ensures rest { self.new ≡ record self.old { lobby = self.new.lobby } }
     {
         self.lobby.next_dirty(home)
@@ -175,8 +184,10 @@ impl Held {
         self.lobby.hears(client)
     }
 
-    /// How much work the lobby's events so far were, as `Lobby::told` says.
-    pub fn told(&self) -> u64 {
+    /// How much the lobby's events told so far, as `Lobby::told` says.
+    pub fn told(&self) -> u64
+        ensures { result ≡ self.now.lobby.told }
+    {
         self.lobby.told()
     }
 

@@ -1,4 +1,5 @@
 pub mod OwnChannels
+pub mod Alone
 pub mod Spoken
 pub mod Events
 pub mod Leaves

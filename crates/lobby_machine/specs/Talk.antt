@@ -6,9 +6,13 @@ use Rattle.channel_book.specs.Channels.{Channels, channels_of}
 use Rattle.lobby_model.specs.Outcome.{Letter, tell, users}
 use Rattle.lobby_post.specs.Posted.{but_issuer}
 
+-- that one who logs out leaves a channel with these names: all of them but its own
+abbrev pub left_letter : List ℕ → List ℕ → List (List ℕ) → Letter
+left_letter me channel names = tell (but_issuer (users names)) (reply.Left channel me ∷ [])
+
 -- that one who logs out leaves its channels: the others of each, in the order of the channels' names
 abbrev pub left_letters : List ℕ → Channels → List Letter
-left_letters me channels = map (λ e. tell (but_issuer (users e.1)) (reply.Left e.0 me ∷ [])) (channels_of me channels)
+left_letters me channels = map (λ e. left_letter me e.0 e.1) (channels_of me channels)
 
 -- how many are in each
 abbrev pub channel_lines : Channels → List Reply

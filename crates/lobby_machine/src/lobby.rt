@@ -1,7 +1,7 @@
 //! The lobby and its events.
 
 ghost use Rattle.std.specs.Prelude.{◌≡◌, ℕ, ◌-◌, ◌^◌, ◌<◌, ◌≤◌, ◌↔◌, [], ◌++◌, length, take, drop, min, OnOk, OnErr};
-ghost use Rattle.std.specs.Prelude.{IfNone, IfOk, IsTrue, false, is_some};
+ghost use Rattle.std.specs.Prelude.{IfNone, IfOk, IsTrue, true, false, is_some};
 ghost use Rattle.command_grammar.specs.Kinds.{keeps_kinds};
 ghost use Rattle.line_words.specs.Table.{at_number};
 ghost use Rattle.lobby_model.specs.declared.event.Event.TheVariants as event;
@@ -11,7 +11,7 @@ ghost use Rattle.lobby_post.specs.Mail.{IsWakes};
 ghost use Rattle.lobby_maps.specs.Calls.{Applies, HasNoNumber, IsFull, IsNextNumber, KeepsOthers, ListsTouched};
 ghost use Rattle.lobby_maps.specs.Calls.{ListsOpened, Opens, TakesFirst, count_into, filled};
 ghost use Rattle.lobby_maps.specs.Shown.{dirty_at, unread_of, is_finished};
-ghost use Rattle.lobby_machine.specs.Work.{list_length};
+ghost use Rattle.lobby_machine.specs.Work.{CountsOn, list_length};
 
 use crate::rules;
 use account_book::AccountBook;
@@ -38,8 +38,9 @@ pub enum OpenError {
     Memory,
 }
 
-/// The lobby. Contracts see the plain lobby that it stands for, and for each worker which of its clients
-/// changed and wait to be looked after. It stays where it lies, and who hands it over hands its address.
+/// The lobby. Contracts see the plain lobby that it stands for, for each worker which of its clients
+/// changed and wait to be looked after, and how much its events told. It stays where it lies, and who hands it over
+/// hands its address.
 pub struct Lobby {
     parts: Box<Parts>,
 }
@@ -50,8 +51,6 @@ struct Parts {
     maps: Maps,
     // what the event at hand tells; its buffers are kept from event to event
     post: Post,
-    // how much work the events so far were
-    told: u64,
 }
 
 impl Drop for Lobby {
@@ -80,6 +79,7 @@ impl Lobby {
     ) -> Result<Lobby, AllocError>
         ensures plain { IfOk result (λ lobby. lobby.plain ≡ empty_lobby settings accounts) }
         ensures dirty { IfOk result (λ lobby. (home : ℕ) → home ≤ 63 → dirty_at lobby home ≡ []) }
+        ensures told { IfOk result (λ lobby. lobby.told ≡ 0) }
     {
         Lobby::with_seed(alloc, settings, accounts, HashSeed::known())
     }
@@ -94,14 +94,11 @@ impl Lobby {
     ) -> Result<Lobby, AllocError>
         ensures plain { IfOk result (λ lobby. lobby.plain ≡ empty_lobby settings accounts) }
         ensures dirty { IfOk result (λ lobby. (home : ℕ) → home ≤ 63 → dirty_at lobby home ≡ []) }
+        ensures told { IfOk result (λ lobby. lobby.told ≡ 0) }
     {
         let maps = Maps::new(alloc, settings, accounts, seed)?;
         let post = Post::new(alloc);
-        let parts = Parts {
-            maps,
-            post,
-            told: 0,
-        };
+        let parts = Parts { maps, post };
         match Box::new(alloc, parts) {
             Ok(parts) => Ok(Lobby { parts }),
             Err(failed) => {
@@ -118,6 +115,7 @@ impl Lobby {
         ensures number { IfOk result (λ number. IsNextNumber self.old number) }
         ensures ok { OnOk result (Opens self.old self.new ip home) }
         ensures dirty { IfOk result (λ number. ListsOpened self.old self.new home number) }
+        ensures told { self.new.told ≡ self.old.told }
         ensures full { (result ≡ Err OpenError.Full) ↔ IsFull self.old }
         ensures no_number { result ≡ Err OpenError.NoNumber → HasNoNumber self.old }
         ensures no_place { has_place self.old.plain ≡ false → result ≡ Err OpenError.Memory → ⊥ }
@@ -136,36 +134,43 @@ impl Lobby {
 
     /// A client's line was read as this request, whose arguments are of the kinds that each line's
     /// are. Gives the workers whose clients it touched. The request of a client that is not there,
-    /// was cut or has said EXIT does nothing. Fails only where memory is refused, and then nothing
-    /// changes.
+    /// was cut or has said EXIT does nothing, and is never refused. Fails only where memory is refused, and then
+    /// nothing changes.
     pub fn say(&mut self, client: u64, request: &Request) -> Result<Wakes, AllocError>
         requires { IsTrue (keeps_kinds request.now.command) }
         ensures ok { OnOk result (Applies self.old self.new (event.Say client request.now)) }
         ensures wakes { IfOk result (λ wakes. IsWakes self.old.plain (event.Say client request.now) wakes) }
         ensures dirty { OnOk result (ListsTouched self.old self.new (event.Say client request.now)) }
+        ensures told { OnOk result (CountsOn self.old self.new (event.Say client request.now)) }
         ensures err { OnErr result (self.new ≡ self.old) }
+        ensures heard { OnErr result (hears self.old.plain client ≡ true) }
     {
-        let Parts { maps, post, told } = &mut *self.parts;
+        let Parts { maps, post } = &mut *self.parts;
         let Some(me) = maps.issuer(client) else {
             return Ok(Wakes::none());
         };
         let change = rules::decide(maps, client, me, request.id, &request.command, post)?;
-        *told = told.wrapping_add(list_len(&request.command) as u64);
-        maps.commit(client, change, post, told)
+        let listed = LOOK_UP.wrapping_mul(list_len(&request.command) as u64);
+        maps.commit(client, change, post, listed)
     }
 
     /// A client's connection is closed: it is removed, and its user, if it was logged in, is logged
-    /// out. Gives the workers whose clients that touched. Nothing happens where it is not there. Fails
-    /// only where memory is refused, and then nothing changes.
+    /// out. Gives the workers whose clients that touched. Nothing happens, and nothing is refused, where it is not
+    /// there. Fails only where memory is refused, and then nothing changes.
     pub fn shut(&mut self, client: u64) -> Result<Wakes, AllocError>
         ensures ok { OnOk result (Applies self.old self.new (event.Shut client)) }
         ensures wakes { IfOk result (λ wakes. IsWakes self.old.plain (event.Shut client) wakes) }
         ensures dirty { OnOk result (ListsTouched self.old self.new (event.Shut client)) }
+        ensures told { OnOk result (CountsOn self.old self.new (event.Shut client)) }
         ensures err { OnErr result (self.new ≡ self.old) }
+        ensures there { OnErr result (is_some (at_number self.old.plain.clients client) ≡ true) }
     {
-        let Parts { maps, post, told } = &mut *self.parts;
+        let Parts { maps, post } = &mut *self.parts;
+        if !maps.has_client(client) {
+            return Ok(Wakes::none());
+        }
         let change = rules::close(maps, client, post)?;
-        maps.commit(client, change, post, told)
+        maps.commit(client, change, post, 0)
     }
 
     /// Takes bytes that a client has not read into a slice, as many as fit, and tells whether
@@ -176,6 +181,7 @@ impl Lobby {
         ensures finished { result.finished ≡ is_finished self.new.plain client }
         ensures next { Applies self.old self.new (event.Drain client (length into.old)) }
         ensures dirty { self.new.dirty ≡ self.old.dirty }
+        ensures told { self.new.told ≡ self.old.told }
     {
         self.parts.maps.drain(client, into)
     }
@@ -189,15 +195,18 @@ impl Lobby {
         ensures first { TakesFirst self.old self.new home result }
         ensures nobody { IfNone result (dirty_at self.old home ≡ []) }
         ensures others { KeepsOthers self.old self.new home }
+        ensures told { self.new.told ≡ self.old.told }
     {
         self.parts.maps.next_dirty(home)
     }
 
-    /// How much work its events so far were: one for each word or pair that a line lists, one for each 32 bytes
-    /// that were printed, one for each piece that a client was told, and one more for each 1,024 bytes of it. Of an
-    /// event that was refused memory the words alone may count. The count begins anew behind 2^64 - 1.
-    pub fn told(&self) -> u64 {
-        self.parts.told
+    /// How much its events told so far: the bytes that clients were sent, those whom that cut among them, and 64 for
+    /// each word or pair that a line listed. Of an event that was refused memory nothing counts. The count begins anew
+    /// behind 2^64 - 1.
+    pub fn told(&self) -> u64
+        ensures { result ≡ self.now.told }
+    {
+        self.parts.maps.told()
     }
 
     /// Whether an open would get a number.
@@ -246,7 +255,10 @@ impl Lobby {
     }
 }
 
-/// How many words or pairs a command lists. To look one up costs as much as to tell one client a short line.
+/// To look up a word or a pair that a line lists costs as much as to tell one client a line of so many bytes.
+const LOOK_UP: u64 = 64;
+
+/// How many words or pairs a command lists.
 fn list_len(command: &Command) -> usize
     ensures { result ≡ list_length command.now }
 {

@@ -1,15 +1,15 @@
 -- All users but those of two names.
 use Rattle.std.proofs.Common.{◌≡◌, ℕ, List, [], ◌∷◌, ◌++◌, refl, sym, ap, ◌∙◌, Bool, true, false}
-use Rattle.std.specs.Prelude.{Option, Some, None, filter, not, ◌||◌, if◌then◌else◌, ◌&&◌, is_some}
+use Rattle.std.specs.Prelude.{Option, Some, None, filter, not, ◌||◌, if◌then◌else◌, ◌&&◌, IfSome, is_some}
 use Rattle.std.proofs.lemmas.List.Folds.{list_any-append}
 use Rattle.std.specs.Ordering.{nat_cmp}
-use Rattle.line_words.specs.Table.{ByName, at_name, is_among, same_name, same_number}
+use Rattle.line_words.specs.Table.{ByName, ByNumber, at_name, is_among, same_name, same_number}
 use Rattle.line_words.proofs.Once.{same_name_equiv}
 use Rattle.std.specs.List.Sorted.{IsStrictlySortedBy}
-use Rattle.lobby_model.specs.State.{State, name_at}
+use Rattle.lobby_model.specs.State.{Client, State, name_at}
 use Rattle.lobby_model.specs.Outcome.{is_named, everyone_but}
 use Rattle.lobby_model.proofs.Delivered.{same_number_is}
-use Rattle.lobby_maps.proofs.Walks.{apart_rising}
+use Rattle.lobby_post.proofs.Sums.{apart_rising}
 use Rattle.lobby_post.specs.Posted.{has_number, AreApart, Reaches}
 use Rattle.lobby_battles.specs.declared.online_users.OnlineUser.{OnlineUser}
 use Rattle.lobby_battles.specs.OnlineUsers.{Agree, IsListed, client_in}
@@ -68,3 +68,10 @@ reaches_all_but s issuer online numbers first second rising listed agree = recor
             ∙ elim (same_name n second) as (λ b. not (same_name n first || b) ≡ not (same_name n first || (b || false))) [ true ↦ refl | false ↦ refl ]
       ];
 }
+
+-- where the numbers of a user's client are those of who bears its name, it is at that client alone
+pub sole_of : (clients : ByNumber Client) (number : Option ℕ) (name : List ℕ)
+    → ((d : ℕ) → is_some_number number d ≡ is_named (same_name name) (name_at clients d))
+    → IfSome number (λ c. (d : ℕ) → same_number d c ≡ is_named (same_name name) (name_at clients d))
+sole_of clients None name exact = tt
+sole_of clients (Some c) name exact = exact

@@ -16,6 +16,7 @@ use Rattle.lobby_model.specs.Outcome.{is_named, everyone, user, users}
 use Rattle.lobby_model.proofs.Delivered.{same_itself, same_number_is}
 use Rattle.lobby_model.proofs.Named.{named_so}
 use Rattle.lobby_post.specs.Posted.{Posted, copy_to, addressed, has_number, AreApart, Reaches}
+use Rattle.lobby_post.proofs.Sums.{apart_rising}
 use Rattle.lobby_battles.specs.declared.online_users.OnlineUser.{OnlineUser}
 use Rattle.lobby_battles.specs.OnlineUsers.{client_in, Agree, IsListed}
 use Rattle.lobby_maps.specs.Fit.{clients_of, IsOwn}
@@ -32,15 +33,6 @@ pub addressed_next : (post mid new : Posted) (cs : List ℕ) (c : ℕ) → mid �
 addressed_next post mid new cs c before is = is ∙ ap (λ p. addressed p (c ∷ [])) before ∙ addressed_more post cs (c ∷ [])
 
 -- all users: their clients' numbers rise, and are those of the clients that are logged in
-none_above : (d : ℕ) (cs : List ℕ) → AllByRecursion (λ k. nat_cmp d k ≡ Less) cs → has_number cs d ≡ false
-none_above d [] above = refl
-none_above d (c ∷ cs) above = (λ i. is_eq (above.0 i) || has_number cs d) ∙ none_above d cs above.1
-
-pub apart_rising : (cs : List ℕ) → IsStrictlySortedBy nat_cmp cs → AreApart cs
-unfolding IsStrictlySortedBy
-apart_rising [] rising = tt
-apart_rising (c ∷ cs) rising = (none_above c cs rising.0, apart_rising cs rising.1)
-
 pub reaches_everyone : (s : State) (issuer : ℕ) (cs : List ℕ) → IsStrictlySortedBy nat_cmp cs → IsListed cs s.clients → Reaches s issuer cs everyone
 reaches_everyone s issuer cs rising listed = record { once = apart_rising cs rising; exact = listed }
 

@@ -1,9 +1,9 @@
 -- How online users, the clients and the battles fit together, and at which clients users are.
 use Rattle.std.specs.Prelude.{◌≡◌, ℕ, ◌≤◌, Bool, true, false, not, filter, List, [], ◌∷◌, flat_map, Option, Some}
 use Rattle.std.specs.Prelude.{None, is_some}
-use Rattle.line_words.specs.Table.{ByName, ByNumber, at_number, at_name, same_number}
-use Rattle.lobby_model.specs.State.{State, Client, Battle}
-use Rattle.lobby_model.specs.Outcome.{user}
+use Rattle.line_words.specs.Table.{ByName, ByNumber, at_number, at_name, same_name, same_number}
+use Rattle.lobby_model.specs.State.{State, Client, Battle, name_of}
+use Rattle.lobby_model.specs.Outcome.{is_named, user}
 use Rattle.lobby_battles.specs.declared.online_users.OnlineUser.{OnlineUser}
 use Rattle.lobby_battles.specs.Battles.{KnowTheirBattles}
 use Rattle.lobby_battles.specs.OnlineUsers.{Agree, IsListed, client_in}
@@ -39,6 +39,10 @@ pub record Fit (limit : ℕ) (clients : Crowd) (online : ByName OnlineUser) (num
   pub known : Known clients last
   pub knowing : KnowTheirBattles battles online
   pub counted : last_battle ≤ 2147483647
+
+-- a user is logged in at this client, and at no other
+abbrev pub IsSole : State → ℕ → List ℕ → Type 0
+IsSole s c name = (d : ℕ) → same_number d c ≡ is_named (same_name name) (name_of s d)
 
 -- the issuer alone, who is the user of a name, got the lines that were being told
 abbrev pub IsOwn : State → Posted → Posted → List ℕ → Type 0

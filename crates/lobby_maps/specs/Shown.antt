@@ -21,11 +21,12 @@ lobby_of settings accounts clients users channels battles last_client last_battl
   last_battle = last_battle;
 }
 
--- The plain lobby that it stands for, and for each of the 64 workers which of its clients changed and wait to be looked
--- after
+-- The plain lobby that it stands for; for each of the 64 workers which of its clients changed and wait to be looked
+-- after; and how much its events told
 pub record Shown : Type 0 where
   pub plain : State
   pub dirty : List (List ℕ)
+  pub told : ℕ
 
 -- those of one worker, the first first
 abbrev pub dirty_at : Shown → ℕ → List ℕ

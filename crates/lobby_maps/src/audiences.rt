@@ -4,7 +4,7 @@
 //! To tell an audience is to write a line, and then to walk over its clients, each of which is addressed.
 //! A walk finds a client by its key, where that is known.
 
-ghost use Rattle.std.specs.Prelude.{◌≡◌, ℕ, [], ◌∷◌, ◌++◌, map, OnOk, Some};
+ghost use Rattle.std.specs.Prelude.{◌≡◌, ℕ, [], ◌∷◌, ◌++◌, map, IfSome, OnOk, Some};
 ghost use Rattle.std.specs.Ordering.{nat_cmp};
 ghost use Rattle.std.specs.List.{IsDistinct};
 ghost use Rattle.std.specs.List.Sorted.{IsStrictlySortedBy};
@@ -15,7 +15,7 @@ ghost use Rattle.lobby_model.specs.Outcome.{tell, everyone, everyone_but, others
 ghost use Rattle.lobby_post.specs.Mail.{plain};
 ghost use Rattle.lobby_post.specs.Posted.{Sends, Told, addressed, but_issuer, has_number};
 ghost use Rattle.lobby_battles.specs.OnlineUsers.{Agree, client_in};
-ghost use Rattle.lobby_maps.specs.Fit.{IsOwn, clients_of, is_some_number, numbers_but};
+ghost use Rattle.lobby_maps.specs.Fit.{IsOwn, IsSole, clients_of, is_some_number, numbers_but};
 
 use crate::maps::Maps;
 use battle_room::{Asker, Member, Room};
@@ -26,6 +26,13 @@ use reply_kinds::Reply;
 use std::alloc::AllocError;
 
 impl Maps {
+    /// The client at which a user is logged in: at no other one is it.
+    pub fn client_of(&self, name: &NameBuf) -> Option<u64>
+        ensures { IfSome result (λ client. IsSole self.now.plain client name.now) }
+    {
+        client_of(&self.online, name)
+    }
+
     /// Tells all users.
     pub fn tell_all(&self, line: Reply, post: &mut Post) -> Result<(), AllocError>
         ensures { OnOk result (Told self.now.plain post.old post.new (tell everyone (line.entry ∷ []) ∷ [])) }

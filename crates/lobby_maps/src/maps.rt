@@ -1,15 +1,16 @@
 //! The lobby's maps, and how an event is committed to them.
 
-ghost use Rattle.std.specs.Prelude.{◌≡◌, ℕ, ◌-◌, ◌^◌, ◌<◌, ◌≤◌, ◌↔◌, [], ◌++◌, length, take, drop, min, OnOk, OnErr};
-ghost use Rattle.std.specs.Prelude.{IfNone, IfOk, IfSome, true, is_some, Some, None, option_copied};
+ghost use Rattle.std.specs.Prelude.{◌≡◌, ℕ, ◌+◌, ◌-◌, ◌^◌, ◌<◌, ◌≤◌, ◌↔◌, [], ◌++◌, length, take, drop, min};
+ghost use Rattle.std.specs.Prelude.{OnOk, OnErr, IfNone, IfOk, IfSome, true, is_some, Some, None, option_copied};
 ghost use Rattle.line_words.specs.Table.{at_number};
 ghost use Rattle.room_lists.specs.Room.{has_asker, has_member};
 ghost use Rattle.lobby_model.specs.declared.event.Event.TheVariants as event;
 ghost use Rattle.lobby_model.specs.State.{Battle, asked_by, battle_of, empty_lobby, hears, name_of};
 ghost use Rattle.lobby_model.specs.Sessions.{has_place};
 ghost use Rattle.lobby_post.specs.Mail.{IsWakes};
-ghost use Rattle.lobby_post.specs.Weights.{counted_on, work};
 ghost use Rattle.lobby_battles.specs.Battles.{AskOutside, ChangesAlike, IsOnly};
+ghost use Rattle.lobby_post.specs.Amounts.{counted_on};
+ghost use Rattle.lobby_maps.specs.Amounts.{bytes_told};
 ghost use Rattle.lobby_maps.specs.Calls.{Applies, HasNoNumber, IsFull, IsNextNumber, KeepsOthers, ListsTouched};
 ghost use Rattle.lobby_maps.specs.Calls.{ListsOpened, TakesFirst, count_into, filled};
 ghost use Rattle.lobby_maps.specs.Changes.{CanBe, OfEvent};
@@ -39,7 +40,7 @@ pub enum Admission {
     NoNumber,
 }
 
-/// The maps. Contracts see the plain lobby, and the lists of changed clients.
+/// The maps. Contracts see the plain lobby, the lists of changed clients, and how much was told.
 pub struct Maps {
     pub(crate) alloc: Global,
     // how the words of a room are hashed
@@ -53,6 +54,8 @@ pub struct Maps {
     pub(crate) channels: ChannelBook<ClientKey>,
     pub(crate) battles: Battles,
     last_client: u64,
+    // how much its events told; it begins anew behind its last value
+    told: u64,
 }
 
 impl Drop for Maps {
@@ -69,6 +72,7 @@ impl Drop for Maps {
             channels,
             battles,
             last_client: _,
+            told: _,
         } = self;
         drop(settings);
         drop(accounts);
@@ -96,6 +100,7 @@ impl Model for Maps {
       plain = lobby_of m.settings m.accounts (plain m.clients.slots) (users_of m.online.users.entries) m.channels
           m.battles.by_number.entries m.last_client m.battles.last;
       dirty = lists_of m.clients;
+      told = m.told;
     } };
 
     ghost invariant = { λ m. (m.greeting_line.items ≡ printed_line None (greeting m.settings))
@@ -113,6 +118,7 @@ impl Maps {
     ) -> Result<Maps, AllocError>
         ensures plain { IfOk result (λ maps. maps.plain ≡ empty_lobby settings accounts) }
         ensures dirty { IfOk result (λ maps. (home : ℕ) → home ≤ 63 → dirty_at maps home ≡ []) }
+        ensures told { IfOk result (λ maps. maps.told ≡ 0) }
     {
         let greeting_line = greeting_of(alloc, &settings)?;
         settings.keep_their_bounds();
@@ -127,6 +133,7 @@ impl Maps {
             channels: ChannelBook::with_keys(alloc),
             battles: Battles::new(alloc),
             last_client: 0,
+            told: 0,
         })
     }
 
@@ -152,6 +159,7 @@ impl Maps {
         ensures number { IfOk result (λ number. IsNextNumber self.old number) }
         ensures ok { OnOk result (Applies self.old self.new (event.Open ip home)) }
         ensures dirty { IfOk result (λ number. ListsOpened self.old self.new home number) }
+        ensures told { self.new.told ≡ self.old.told }
         ensures err { OnErr result (self.new ≡ self.old) }
     {
         let number = self.last_client + 1;
@@ -170,14 +178,14 @@ impl Maps {
         self.clients.heard(client)
     }
 
-    /// Makes room for all that is told, changes the maps, and delivers. Adds to `told` how much work the
-    /// delivery is. Where memory is refused, nothing changes.
+    /// Makes room for all that is told, changes the maps, and delivers. The count of what was told goes on by the bytes
+    /// that the event tells, and so many more. Where memory is refused, nothing changes.
     pub fn commit(
         &mut self,
         client: u64,
         change: Change,
         post: &mut Post,
-        told: &mut u64,
+        more: u64,
     ) -> Result<Wakes, AllocError>
         requires { CanBe self.old.plain.clients self.old.plain.users self.old.plain.channels self.old.plain.battles
             client change }
@@ -186,9 +194,9 @@ impl Maps {
             OfEvent self.old.plain client change post.old (λ e. IsWakes self.old.plain e wakes)) }
         ensures dirty { OnOk result (OfEvent self.old.plain client change post.old (λ e.
             ListsTouched self.old self.new e)) }
-        ensures told { OnOk result (told.new ≡ counted_on told.old (work post.old)) }
+        ensures told { OnOk result (OfEvent self.old.plain client change post.old (λ e.
+            self.new.told ≡ counted_on self.old.told (more + bytes_told self.old.plain e))) }
         ensures err { OnErr result (self.new ≡ self.old) }
-        ensures untold { OnErr result (told.new ≡ told.old) }
     {
         match self.clients.reserve(post) {
             Ok(()) => {}
@@ -206,7 +214,10 @@ impl Maps {
             change,
         );
         match done {
-            Ok(()) => Ok(self.clients.deliver(post, told)),
+            Ok(()) => {
+                self.told = self.told.wrapping_add(more);
+                Ok(self.clients.deliver(post, &mut self.told))
+            }
             Err(refused) => {
                 self.clients.cancel(post);
                 Err(refused)
@@ -254,6 +265,7 @@ impl Maps {
         ensures finished { result.finished ≡ is_finished self.new.plain client }
         ensures next { Applies self.old self.new (event.Drain client (length into.old)) }
         ensures dirty { self.new.dirty ≡ self.old.dirty }
+        ensures told { self.new.told ≡ self.old.told }
     {
         self.clients.drain(client, into)
     }
@@ -265,8 +277,16 @@ impl Maps {
         ensures first { TakesFirst self.old self.new home result }
         ensures nobody { IfNone result (dirty_at self.old home ≡ []) }
         ensures others { KeepsOthers self.old self.new home }
+        ensures told { self.new.told ≡ self.old.told }
     {
         self.clients.next_dirty(home)
+    }
+
+    /// How much its events told so far: the bytes that `commit` counts. It begins anew behind 2^64 - 1.
+    pub fn told(&self) -> u64
+        ensures { result ≡ self.now.told }
+    {
+        self.told
     }
 
     /// The last client number given, 0 at first.
@@ -278,7 +298,9 @@ impl Maps {
 
     /// Whether a client is there.
     pub fn has_client(&self, client: u64) -> bool
-        ensures { result ≡ is_some (at_number self.now.plain.clients client) }
+        ensures there { result ≡ is_some (at_number self.now.plain.clients client) }
+        ensures waiting { (home : ℕ) → home ≤ 63
+            → those_there self.now.plain.clients (dirty_at self.now home) ≡ dirty_at self.now home }
     {
         self.clients.contains(client)
     }

@@ -23,7 +23,7 @@ deaf s c none = ap is_live_client none
 unnamed : (s : State) (c : ℕ) → at_number s.clients c ≡ None → name_of s c ≡ None
 unnamed s c none = ap name_of_client none
 
-same_effect : (s : State) (e : Event) → IsVoid s e → effect s e ≡ s
+pub same_effect : (s : State) (e : Event) → IsVoid s e → effect s e ≡ s
 same_effect s (event.Open ip home) full = ap (state_after s) (no_place s ip home full)
 same_effect s (event.Say c request) none = effect_unheard s c request (deaf s c none)
 same_effect s (event.Shut c) none =
@@ -31,7 +31,7 @@ same_effect s (event.Shut c) none =
     ∙ ap (λ (m : ByNumber Client). record s { clients = m }) (without_absent nat_cmp s.clients c none)
 same_effect s (event.Drain c n) none = ap (λ (m : ByNumber Client). record s { clients = m }) (change_absent nat_cmp (drained n) s.clients c none)
 
-sends_nothing : (s : State) (e : Event) → IsVoid s e → (d : ℕ) → batch s e d ≡ []
+pub sends_nothing : (s : State) (e : Event) → IsVoid s e → (d : ℕ) → batch s e d ≡ []
 sends_nothing s (event.Open ip home) full d = ap (λ o. print_all (lines_of s (event.Open ip home) o d)) (no_place s ip home full)
 sends_nothing s (event.Say c request) none d = unheard_sends s c request d (deaf s c none)
 sends_nothing s (event.Shut c) none d = unnamed_shut_sends s c (unnamed s c none) d

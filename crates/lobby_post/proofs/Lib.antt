@@ -10,6 +10,7 @@ pub mod Cells
 pub mod Parcels
 pub mod Dues
 pub mod Rounds
+pub mod Sums
 pub mod Newly
 pub mod Underway
 pub mod Lines

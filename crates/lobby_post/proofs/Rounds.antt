@@ -5,7 +5,8 @@ use Rattle.std.specs.Ordering.{nat_cmp}
 use Rattle.std.specs.List.{AllByRecursion, list_any}
 use Rattle.std.specs.List.Sorted.{IsStrictlySortedBy}
 use Rattle.std.specs.BTreeMap.{is_at}
-use Rattle.std.specs.Map.{lookup, set_value}
+use Rattle.std.specs.Map.{keys_of, lookup, set_value}
+use Rattle.std.proofs.lemmas.Map.{keys-set_value}
 use Rattle.std.proofs.Math.Seq.{take-suc}
 use Rattle.std.proofs.lemmas.List.{map-append, drop_all, take_all, take-append-drop, length-take-le, length-drop}
 use Rattle.std.proofs.lemmas.Map.Steps.{set_value_same}
@@ -18,21 +19,15 @@ use Rattle.lobby_post.specs.declared.delivery.Delivery.{Delivery}
 use Rattle.lobby_post.specs.declared.due.Due.{Due}
 use Rattle.lobby_post.specs.Dues.{counted, due_and, due_but, count_for, nothing_due, shares_of, shared_pieces_in, Covers}
 use Rattle.lobby_post.specs.Pieces.{LiesIn, bytes_of, pieces_of}
-use Rattle.lobby_post.specs.Weights.{counted_on, weight, weight_of}
-use Rattle.std.proofs.Math.Nat.{mod-add-mod, mod-eq_of_lt}
+use Rattle.lobby_post.specs.Amounts.{bytes_in_all, counted_on}
 use Rattle.lobby_post.specs.Mail.{Mailbox, plain, bytes_for, due_for, deliver, wakes_one, wakes_home, AllSlots, AwaitsPiece, HaveLimit, PutsFirst, AreDue, IsDue, IsReady, AreReady, IsShort, WantsMemory}
 use Rattle.lobby_post.proofs.Crowds.{IsWritten, all_written, all_past}
 use Rattle.lobby_post.proofs.Dues.{bytes_front, copied_within, count_front, counted_less, due_covers, due_grown, due_left, due_other, due_same}
+use Rattle.lobby_post.proofs.Sums.{counted_none, counted_twice, told_here, told_none, told_past}
 use Rattle.lobby_post.proofs.Parcels.{deliver_step, deliver_past, deliver_nil, touched_alike, wakes_step, wakes_past, wakes_nil}
 
 abbrev pub blank : Delivery
 blank = record { key = record { number = 0; slot = 0 }; from = 0; to = 0 }
-
--- a count that goes on twice
-pub counted_twice : (count a b : ℕ) → counted_on (counted_on count a) b ≡ counted_on count (a + b)
-counted_twice count a b =
-    let same : (count + a) + b ≡ count + (a + b) = omega arith in
-    mod-add-mod (count + a) (2 ^ 64) b ∙ ap (λ n. n % 2 ^ 64) same
 
 or_first : (a p b w : Bool) → (p || b) ≡ w → ((a || p) || b) ≡ (a || w)
 or_first true p b w e = refl
@@ -207,10 +202,23 @@ module _ (text : List ℕ) (pieces : List Delivery) (i : ℕ) (within : i < leng
   pub pieces_is : pieces_of text (drop i pieces) ≡ (piece.key.number, bytes) ∷ rest
   pieces_is = ap (pieces_of text) drop_is
 
-  -- the piece is counted, and those behind it
-  pub told_next : (told : ℕ) → counted_on (counted_on told (weight_of (length bytes))) (weight rest) ≡ counted_on told (weight (pieces_of text (drop i pieces)))
-  told_next told =
-      counted_twice told (weight_of (length bytes)) (weight rest) ∙ ap (λ ps. counted_on told (weight ps)) (sym pieces_is)
+  -- the piece is counted where its client is there, and those behind it
+  pub told_next : (count after : ℕ) (x w : Mailbox) (es : ByNumber Mailbox) → after ≡ counted_on count (length bytes)
+      → Some x ≡ lookup (is_at (nat_cmp piece.key.number)) es → IsStrictlySortedBy nat_cmp (keys_of es)
+      → counted_on after (bytes_in_all (bytes_for rest) (keys_of (set_value (is_at (nat_cmp piece.key.number)) es w)))
+      ≡ counted_on count (bytes_in_all (bytes_for (pieces_of text (drop i pieces))) (keys_of es))
+  told_next count after x w es is found ordered =
+      (λ j. counted_on (is j) (bytes_in_all (bytes_for rest) (keys-set_value (is_at (nat_cmp piece.key.number)) es w j)))
+      ∙ counted_twice count (length bytes) (bytes_in_all (bytes_for rest) (keys_of es))
+      ∙ ap (counted_on count) (sym (told_here piece.key.number bytes rest x es ordered found))
+      ∙ ap (λ ps. counted_on count (bytes_in_all (bytes_for ps) (keys_of es))) (sym pieces_is)
+
+  pub told_behind : (count : ℕ) (es : ByNumber Mailbox) → lookup (is_at (nat_cmp piece.key.number)) es ≡ None
+      → counted_on count (bytes_in_all (bytes_for rest) (keys_of es))
+      ≡ counted_on count (bytes_in_all (bytes_for (pieces_of text (drop i pieces))) (keys_of es))
+  told_behind count es none =
+      ap (counted_on count) (sym (told_past piece.key.number bytes rest es none))
+      ∙ ap (λ ps. counted_on count (bytes_in_all (bytes_for ps) (keys_of es))) (sym pieces_is)
 
   pub pieces_done : pieces_of text (take (i + 1) pieces) ≡ pieces_of text (take i pieces) ++ (piece.key.number, bytes) ∷ []
   pieces_done =
@@ -303,10 +311,11 @@ module _ (text : List ℕ) (pieces : List Delivery) (i : ℕ) (past : length pie
   pub no_shares : shares_of (pieces_of text (drop i pieces)) ≡ []
   no_shares = ap shares_of none_left
 
-  pub told_end : (told : ℕ) → told < 2 ^ 64 → told ≡ counted_on told (weight (pieces_of text (drop i pieces)))
-  told_end told small =
-      let none : told ≡ told + 0 = omega arith in
-      sym (mod-eq_of_lt small) ∙ ap (λ n. n % 2 ^ 64) none ∙ ap (λ ps. counted_on told (weight ps)) (sym none_left)
+  pub told_end : (count : ℕ) (clients : List ℕ) → count < 2 ^ 64
+      → count ≡ counted_on count (bytes_in_all (bytes_for (pieces_of text (drop i pieces))) clients)
+  told_end count clients small =
+      sym (counted_none count small) ∙ ap (counted_on count) (sym (told_none clients))
+      ∙ ap (λ ps. counted_on count (bytes_in_all (bytes_for ps) clients)) (sym none_left)
 
   pub clients_end : (limit : ℕ) (m : ByNumber Client) → deliver limit (pieces_of text (drop i pieces)) m ≡ m
   clients_end limit m = ap (λ ps. deliver limit ps m) none_left ∙ deliver_nil limit m

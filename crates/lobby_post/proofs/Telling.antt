@@ -177,3 +177,15 @@ with_own_more post xs ys =
 pub told_own_lines : (s : State) (old mid new : Posted) (lines : List Reply) → mid ≡ with_own (blank old) lines → new
     ≡ addressed mid (mid.issuer ∷ []) → Told s old new (tell issuer lines ∷ [])
 told_own_lines s old mid new lines written is = told_own s old mid new _ _ _ written lines issuer (reaches_issuer s old.issuer) is refl
+
+-- an audience of nobody is told its lines as it is
+pub told_nobody : (s : State) (post : Posted) (to : Audience) (lines : List Reply) → ((d : ℕ) → to (reader_of s post.issuer d) ≡ false)
+    → Told s post post (tell to lines ∷ [])
+told_nobody s post to lines nobody = record {
+  issuer = refl;
+  id = refl;
+  bytes = λ d.
+      sym (append-nil (bytes_for post.sent d))
+      ∙ ap (λ b. bytes_for post.sent d ++ print_all (under (if same_number d post.issuer then post.id else None) ((if b then lines else []) ++ [])))
+      (sym (nobody d));
+}

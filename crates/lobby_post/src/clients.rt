@@ -6,6 +6,7 @@ ghost use Rattle.std.specs.Prelude.{option_copied};
 ghost use Rattle.std.specs.Option.{option_map, option_to_list};
 ghost use Rattle.std.specs.Ordering.{nat_cmp};
 ghost use Rattle.std.specs.List.Sorted.{IsStrictlySortedBy};
+ghost use Rattle.std.specs.Map.{keys_of};
 ghost use Rattle.line_words.specs.Table.{ByNumber, at_number, put_number, same_number, without_number, change_number};
 ghost use Rattle.lobby_model.specs.declared.event.Phase.TheVariants.{Ended, In};
 ghost use Rattle.lobby_model.specs.State.{is_live_client, name_at, set_phase};
@@ -16,7 +17,7 @@ ghost use Rattle.lobby_post.specs.Mask.{has_home};
 ghost use Rattle.lobby_post.specs.Crowd.{all_but_client, waits, Known, KeepsNothing};
 ghost use Rattle.lobby_post.specs.Mail.{AreDue, AreReady, WantsMemory, bytes_for, deliver, parted, plain, wakes_home};
 ghost use Rattle.lobby_post.specs.Unread.{is_over, unread_in};
-ghost use Rattle.lobby_post.specs.Weights.{counted_on, work};
+ghost use Rattle.lobby_post.specs.Amounts.{bytes_in_all, counted_on};
 
 use crate::buffer_pool::BufferPool;
 use crate::dirty::DirtyLists;
@@ -287,14 +288,15 @@ impl Clients {
     }
 
     /// Puts all that an event tells, to each client whole or not at all. Gives the workers of those that
-    /// it touched, and adds to `told` how much work that is. Nothing is told any more then.
+    /// it touched, and adds to `told` how many bytes they are told. Nothing is told any more then.
     pub fn deliver(&mut self, post: &mut Post, told: &mut u64) -> Wakes
         requires due { AreDue post.old.sent self.old.slots }
         requires ready { AreReady self.old.slots }
         ensures limit { self.new.limit ≡ self.old.limit }
         ensures clients { plain self.new.slots ≡ deliver self.old.limit post.old.sent (plain self.old.slots) }
         ensures due { AreDue [] self.new.slots }
-        ensures told { told.new ≡ counted_on told.old (work post.old) }
+        ensures told { told.new
+            ≡ counted_on told.old (bytes_in_all (bytes_for post.old.sent) (keys_of self.old.slots)) }
         ensures wakes { (home : ℕ) → has_home result home
             ≡ wakes_home self.old.limit post.old.sent (plain self.old.slots) home }
         ensures known { (n : ℕ) → Known self.old n → Known self.new n }

@@ -3,17 +3,19 @@
 ghost use Rattle.std.specs.Prelude.{◌≡◌, ℕ, ◌-◌, ◌^◌, ◌<◌, ◌≤◌, [], ◌&&◌, ◌||◌, not, true, length, if◌then◌else◌};
 ghost use Rattle.std.specs.Prelude.{OnOk, OnErr};
 ghost use Rattle.std.specs.List.{AllByRecursion};
+ghost use Rattle.std.specs.Map.{keys_of};
 ghost use Rattle.lobby_post.specs.Mask.{has_home};
 ghost use Rattle.line_words.specs.Table.{same_number};
 ghost use Rattle.lobby_model.specs.State.{is_live};
 ghost use Rattle.lobby_model.specs.Touched.{is_touched};
 ghost use Rattle.lobby_post.specs.Mail.{AreDue, AreReady, AwaitsPiece, HaveLimit, IsReady, PutsFirst, WantsMemory};
-ghost use Rattle.lobby_post.specs.Mail.{plain, deliver, wakes_home, wakes_one};
+ghost use Rattle.lobby_post.specs.Mail.{bytes_for, plain, deliver, wakes_home, wakes_one};
 ghost use Rattle.lobby_post.specs.Dirty.{line_of, listings_of, pushed, stands, AreKnown, IsNewly};
 ghost use Rattle.lobby_post.specs.Dues.{due_but, share_of, shares_of};
 ghost use Rattle.lobby_post.specs.Pieces.{LiesIn, pieces_of};
-ghost use Rattle.lobby_post.specs.Weights.{counted_on, weight};
+ghost use Rattle.lobby_post.specs.Amounts.{bytes_in_all, counted_on};
 
+use crate::amount::with_bytes;
 use crate::buffer_pool::BufferPool;
 use crate::dirty::DirtyLists;
 use crate::key::ClientKey;
@@ -21,7 +23,6 @@ use crate::shares::next_share;
 use crate::slot::Slot;
 use crate::slots::Slots;
 use crate::wakes::Wakes;
-use crate::weight::with_piece;
 use bytes::Bytes;
 use std::alloc::AllocError;
 use std::collections::VecDeque;
@@ -123,7 +124,7 @@ fn put(
 
 /// Puts each piece, or cuts its client where not all its pieces fit. Those that it touched and that did
 /// not wait do so from then on. The shares of the long pieces are used up. Gives the workers of those
-/// that it touched, and adds to `told` what the pieces count.
+/// that it touched, and adds to `told` the bytes of the pieces whose clients are there.
 pub fn deliver(
     clients: &mut Slots,
     dirty: &mut DirtyLists,
@@ -141,7 +142,8 @@ pub fn deliver(
     ensures limits { (limit : ℕ) → HaveLimit limit clients.old → HaveLimit limit clients.new }
     ensures due { AreDue [] clients.new }
     ensures shares { shares.new.items ≡ [] }
-    ensures told { told.new ≡ counted_on told.old (weight (pieces_of text.now pieces.now)) }
+    ensures told { told.new
+        ≡ counted_on told.old (bytes_in_all (bytes_for (pieces_of text.now pieces.now)) (keys_of clients.old)) }
     ensures wakes { (limit home : ℕ) → has_home result home
         ≡ wakes_home limit (pieces_of text.now pieces.now) (plain clients.old) home }
     ensures homes { (home c : ℕ) → stands (listings_of clients.new) home c ≡ stands (listings_of clients.old) home c }
@@ -155,9 +157,9 @@ pub fn deliver(
     let mut count = *told;
     for piece in pieces {
         let bytes = &text[piece.from..piece.to];
-        count = with_piece(count, bytes.len());
         match clients.get_mut_at(piece.key) {
             Some(slot) => {
+                count = with_bytes(count, bytes);
                 let share = next_share(bytes, shares);
                 wakes = wakes.union(put(slot, dirty, piece.key.number, bytes, share));
             }

@@ -1,12 +1,14 @@
 //! What an event sends: lines, each printed once, and who gets them, in the order of telling.
 
 ghost use Rattle.std.specs.Prelude.{◌≡◌, ℕ, ◌<◌, ◌≤◌, [], ◌∷◌, ◌++◌, length, OnOk, OnErr};
+ghost use Rattle.std.specs.Map.{keys_of};
 ghost use Rattle.reply_kinds.specs.Replies.{printed_line};
 ghost use Rattle.lobby_post.specs.Mask.{has_home};
-ghost use Rattle.lobby_post.specs.Mail.{AreDue, AreReady, HaveLimit, WantsMemory, plain, deliver, wakes_home};
+ghost use Rattle.lobby_post.specs.Mail.{AreDue, AreReady, HaveLimit, WantsMemory, bytes_for, plain, deliver};
+ghost use Rattle.lobby_post.specs.Mail.{wakes_home};
 ghost use Rattle.lobby_post.specs.Dirty.{line_of, listings_of, stands, AreKnown, IsNewly};
 ghost use Rattle.lobby_post.specs.Posted.{begun, blank, telling, with_own, with_others, copy_to, addressed, Told};
-ghost use Rattle.lobby_post.specs.Weights.{counted_on, work};
+ghost use Rattle.lobby_post.specs.Amounts.{bytes_in_all, counted_on};
 ghost use Rattle.lobby_model.specs.State.{State};
 ghost use Rattle.lobby_model.specs.Outcome.{tell, issuer};
 
@@ -18,7 +20,6 @@ use crate::key::ClientKey;
 use crate::shares::{add_share, add_share_of_line, forget_line};
 use crate::slots::Slots;
 use crate::wakes::Wakes;
-use crate::weight::with_printed;
 use bytes::Bytes;
 use reply_kinds::Reply;
 use reply_printer::{print, print_id};
@@ -134,6 +135,13 @@ impl Post {
         self.own = 0;
         self.shared = 0;
         forget_line(&mut self.line);
+    }
+
+    /// The client whose event it is.
+    pub fn issuer(&self) -> u64
+        ensures { result ≡ self.now.issuer }
+    {
+        self.issuer
     }
 
     /// Prints the line that is told next, in place of those before it. Its issuer gets it behind the id
@@ -270,10 +278,9 @@ impl Post {
     }
 
     /// Puts all that is told, to each client whole or not at all. Those that it touched and that did
-    /// not wait do so from then on. Gives the workers of those that it touched, and adds to `told` how much
-    /// work the event is: one for each 32 bytes that were printed, one for each piece, and one more for each
-    /// 1,024 bytes of it. That count begins anew behind 2^64 - 1. Nothing is told any more then, and no share
-    /// is kept.
+    /// not wait do so from then on. Gives the workers of those that it touched, and adds to `told` how many
+    /// bytes the clients that are there are told. That count begins anew behind 2^64 - 1. Nothing is told any
+    /// more then, and no share is kept.
     pub(crate) fn deliver(
         &mut self,
         slots: &mut Slots,
@@ -286,7 +293,7 @@ impl Post {
             → plain slots.new ≡ deliver limit self.old.sent (plain slots.old) }
         ensures limits { (limit : ℕ) → HaveLimit limit slots.old → HaveLimit limit slots.new }
         ensures due { AreDue [] slots.new }
-        ensures told { told.new ≡ counted_on told.old (work self.old) }
+        ensures told { told.new ≡ counted_on told.old (bytes_in_all (bytes_for self.old.sent) (keys_of slots.old)) }
         ensures wakes { (limit home : ℕ)
             → has_home result home ≡ wakes_home limit self.old.sent (plain slots.old) home }
         ensures homes { (home c : ℕ) → stands (listings_of slots.new) home c ≡ stands (listings_of slots.old) home c }
@@ -295,7 +302,6 @@ impl Post {
         ensures newly { (n home : ℕ) → AreKnown (listings_of slots.old) (line_of dirty.old) n → home < 64
             → IsNewly self.old.sent slots.old home (line_of dirty.old home).waiting (line_of dirty.new home).waiting }
     {
-        *told = with_printed(*told, self.text.len());
         let wakes = delivery::deliver(
             slots,
             dirty,

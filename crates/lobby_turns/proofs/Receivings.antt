@@ -1,6 +1,7 @@
 -- How receiving from a client goes on.
-use Rattle.std.proofs.Common.{◌≡◌, ◌≢◌, ◌⊎◌, ℕ, zero, suc, ◌+◌, ◌-◌, ◌<◌, ◌≤◌, true, false, List, [], ◌++◌, length, refl, sym, ap, ◌∙◌, subst, inl, inr, arith, append-nil, length-append}
-use Rattle.std.specs.Prelude.{◌||◌, Some}
+use Rattle.std.proofs.Common.{◌≡◌, ◌≢◌, ◌⊎◌, ℕ, zero, suc, ◌+◌, ◌-◌, ◌^◌, ◌<◌, ◌≤◌, true, false, List, [], ◌∷◌, ◌++◌, length, refl, sym, ap, ◌∙◌, subst, inl, inr, arith, append-nil, length-append}
+use Rattle.std.specs.Prelude.{◌||◌, Option, Some, None}
+use Rattle.std.specs.Option.{option_map}
 use Rattle.lobby_post.specs.Mask.{has_home}
 use Rattle.lobby_holds.specs.declared.link.Got.{Got}
 use Rattle.lobby_holds.specs.declared.link.Got.TheVariants as got
@@ -10,23 +11,28 @@ use Rattle.lobby_turns.specs.declared.receiving.ReceiveState.TheVariants as rece
 use Rattle.lobby_turns.specs.declared.receiving.Left.{Left}
 use Rattle.lobby_turns.specs.declared.receiving.Step.{Step}
 use Rattle.lobby_turns.specs.declared.receiving.Step.TheVariants as step
-use Rattle.lobby_holds.specs.Moments.{Moment}
+use Rattle.lobby_machine.specs.Work.{counted_on}
+use Rattle.lobby_holds.specs.Moments.{Moment, told_behind, work_of}
+use Rattle.lobby_holds.proofs.Counted.{told_behind_is, work_of-append}
 use Rattle.lobby_holds.specs.Wire.{Wire, ReadsBytes, and_more}
 use Rattle.lobby_holds.specs.Snapshot.{Snapshot}
 use Rattle.client_session.specs.Serving.{Serving}
 use Rattle.lobby_holds.specs.Went.{Went}
-use Rattle.lobby_holds.specs.Holds.{AreSaid, SaysLines, IsWithin, HasLoudNext, StopsAt}
+use Rattle.lobby_holds.specs.Holds.{AreSaid, SaysLines, IsWithin, HasLoudNext, HasTold, StopsAt}
 use Rattle.client_session.specs.declared.session.Next.TheVariants.{Nothing, Spoilt}
 use Rattle.client_session.specs.OneSession.{IsNextOf}
-use Rattle.lobby_turns.specs.Receiving.{OnlyReads, IsAllReceived, NoReadFailed, LimitIs, MayRead, HasToReceive, has_bytes, has_line, has_more, StaysWithin, IsMost, most_lines, most_reads, most_bytes, most_told, bytes_of, StepIs, ReceivesNext, ReceivedIs, Receives}
+use Rattle.lobby_turns.specs.Receiving.{CountsTold, IsSpent, Share, left_of, OnlyReads, IsAllReceived, NoReadFailed, LimitIs, MayRead, HasToReceive, has_bytes, has_line, has_more, StaysWithin, IsMost, most_lines, most_reads, most_bytes, most_told, bytes_of, StepIs, ReceivesNext, ReceivedIs, Receives}
 use Rattle.lobby_holds.proofs.Parts.{went_none, went_then, more_none, more_twice}
 use Rattle.lobby_holds.proofs.Nexts.{line_is_sound}
-use Rattle.lobby_holds.proofs.Sayings.{says_none, says_then, loud_is_line, stays_next}
+use Rattle.lobby_holds.proofs.Sayings.{said_then, loud_is_line, stays_next}
 use Rattle.std.proofs.Math.Nat.{add-zero, zero-add}
 
--- so many lines were said to the lobby, so many reads were made, of so many bytes in all, and these workers are to be woken
-pub record Receiving (old new : Snapshot) (lines reads bytes wakes : ℕ) : Type 0 where
-  pub says : SaysLines old new lines wakes
+-- So many lines were said to the lobby, so many reads were made, of so many bytes in all, these workers are to be woken, and
+-- so much was told
+pub record Receiving (old new : Snapshot) (lines reads bytes wakes told : ℕ) : Type 0 where
+  pub sum : ℕ
+  pub says : SaysLines old new lines wakes 0 sum
+  pub told_is : CountsTold told says.talk
   pub only : OnlyReads old new reads bytes
 
 reads_none : (a b : Wire) → b ≡ a → ReadsBytes a b 0
@@ -39,9 +45,16 @@ reads_then a b c p q h k = record {
   bytes_are = omega (arith, h.bytes_are, k.bytes_are, length-append h.more k.more);
 }
 
-pub receiving_none : (a : Snapshot) (wakes : ℕ) → ((home : ℕ) → has_home wakes home ≡ false) → Receiving a a 0 0 0 wakes
+pub receiving_none : (a : Snapshot) (wakes : ℕ) → ((home : ℕ) → has_home wakes home ≡ false) → Receiving a a 0 0 0 wakes 0
 receiving_none a wakes none = record {
-  says = says_none a wakes none;
+  sum = 0;
+  says = record {
+    talk = [];
+    went = went_none a;
+    said = record { own = tt; calm = refl; lines_are = refl; only = refl; wakes_are = none; told_is = refl };
+    unwritten = refl;
+  };
+  told_is = λ _. refl;
   only = record { reads_are = omega arith; bytes_are = reads_none a.wire a.wire refl; at_once = omega arith; writes = refl; failures = omega arith; still = λ _. refl; unwritten = refl };
 }
 
@@ -57,10 +70,13 @@ only_then a b c m n p q h k = record {
 }
 
 -- what came without a line
-quietly : (a b c : Snapshot) (m k n p q wakes : ℕ) (u : List Moment) → Receiving a b m k p wakes → Went b c u → OnlyReads b c n q → u ≡ [] → Receiving a c m (k + n) (p + q) wakes
-quietly a b c m k n p q wakes u h went only none =
+quietly : (a b c : Snapshot) (m k n p q wakes told : ℕ) (u : List Moment) → Receiving a b m k p wakes told → Went b c u → OnlyReads b c n q → u ≡ []
+    → Receiving a c m (k + n) (p + q) wakes told
+quietly a b c m k n p q wakes told u h went only none =
     let t : List Moment = h.says.talk in
     record {
+      sum = h.sum;
+      told_is = h.told_is;
       says = record {
         talk = t;
         went = subst (λ (l : List Moment). Went a c l) (ap (λ l. t ++ l) none ∙ append-nil t) (went_then a b c t u h.says.went went);
@@ -70,14 +86,49 @@ quietly a b c m k n p q wakes u h went only none =
       only = only_then a b c k n p q h.only only;
     }
 
-pub receiving_read : (a b c : Snapshot) (m k p q wakes : ℕ) → Receiving a b m k p wakes → ReceivesNext b c (step.Read q) → Receiving a c m (k + 1) (p + q) wakes
-receiving_read a b c m k p q wakes h s =
-    subst (λ (n : ℕ). Receiving a c m (k + n) (p + q) wakes) s.step_is.1 (quietly a b c m k s.reads p q wakes s.talk h s.went s.only s.step_is.0)
+pub receiving_read : (a b c : Snapshot) (m k p q wakes told : ℕ) → Receiving a b m k p wakes told → ReceivesNext b c (step.Read q)
+    → Receiving a c m (k + 1) (p + q) wakes told
+receiving_read a b c m k p q wakes told h s =
+    subst (λ (n : ℕ). Receiving a c m (k + n) (p + q) wakes told) s.step_is.1 (quietly a b c m k s.reads p q wakes told s.talk h s.went s.only s.step_is.0)
 
-pub receiving_said : (a b c : Snapshot) (m k p wakes : ℕ) (said : Said) (all : ℕ) → Receiving a b m k p wakes → ReceivesNext b c (step.Said said)
-    → ((home : ℕ) → has_home all home ≡ (has_home wakes home || has_home said.wakes home)) → Receiving a c (m + said.lines) k p all
-receiving_said a b c m k p wakes said all h s both = record {
-  says = says_then a b c m said.lines wakes said.wakes all h.says (record { talk = s.talk; went = s.went; said = s.step_is.1; unwritten = s.only.unwritten }) both;
+-- two counts together, as far as a number of 64 bits can tell
+abbrev pub Adds : ℕ → ℕ → ℕ → Type 0
+Adds told more all = told + more < 2 ^ 64 → all ≡ told + more
+
+-- what a hold counted from 0 on
+said_told : (c : ℕ) (talk : List Moment) (lines wakes told : ℕ) → AreSaid c talk lines wakes 0 told → CountsTold told talk
+said_told c talk lines wakes told said small =
+    let is : told ≡ counted_on 0 (work_of talk) = sym said.told_is ∙ told_behind_is 0 talk (omega arith) in
+    omega (arith, is, small)
+
+pub both_told : (told more all : ℕ) (t u : List Moment) → CountsTold told t → CountsTold more u → Adds told more all → CountsTold all (t ++ u)
+both_told told more all t u h k adds small =
+    let whole : work_of (t ++ u) ≡ work_of t + work_of u = work_of-append t u in
+    let first : told ≡ work_of t = h (omega (arith, whole, small)) in
+    let second : more ≡ work_of u = k (omega (arith, whole, small)) in
+    let together : all ≡ told + more = adds (omega (arith, whole, small, first, second)) in
+    omega (arith, whole, first, second, together)
+
+-- the same lines, where a count goes on by them from another number
+counts_from : (before c : ℕ) (talk : List Moment) (lines wakes told : ℕ) → AreSaid c talk lines wakes 0 told → AreSaid c talk lines wakes before (told_behind before talk)
+counts_from before c talk lines wakes told said =
+    record { own = said.own; calm = said.calm; lines_are = said.lines_are; only = said.only; wakes_are = said.wakes_are; told_is = refl }
+
+pub receiving_said : (a b c : Snapshot) (m k p wakes told : ℕ) (said : Said) (all sum : ℕ) → Receiving a b m k p wakes told → ReceivesNext b c (step.Said said)
+    → ((home : ℕ) → has_home all home ≡ (has_home wakes home || has_home said.wakes home)) → Adds told said.told sum
+    → Receiving a c (m + said.lines) k p all sum
+receiving_said a b c m k p wakes told said all sum h s both adds = record {
+  sum = told_behind h.sum s.talk;
+  says = record {
+    talk = h.says.talk ++ s.talk;
+    went = went_then a b c h.says.talk s.talk h.says.went s.went;
+    said =
+        said_then a.conn.session.client h.says.talk s.talk m said.lines wakes said.wakes all 0 h.sum (told_behind h.sum s.talk) h.says.said
+        (subst (λ (d : ℕ). AreSaid d s.talk said.lines said.wakes h.sum (told_behind h.sum s.talk)) h.says.went.client
+        (counts_from h.sum b.conn.session.client s.talk said.lines said.wakes said.told s.step_is.1)) both;
+    unwritten = s.only.unwritten ∙ h.says.unwritten;
+  };
+  told_is = both_told told said.told sum h.says.talk s.talk h.told_is (said_told b.conn.session.client s.talk said.lines said.wakes said.told s.step_is.1) adds;
   only =
       subst (λ (n : ℕ). OnlyReads a c n p) (ap (λ n. k + n) s.step_is.0 ∙ add-zero k) (
       subst (λ (n : ℕ). OnlyReads a c (k + s.reads) n) (add-zero p) (only_then a b c k s.reads p 0 h.only s.only));
@@ -97,8 +148,8 @@ no_fault_all a c h = last h.last
 
 -- ---- the whole of what a round of receiving keeps
 
-pub record IsReceiving (old new : Snapshot) (lines reads bytes wakes : ℕ) : Type 0 where
-  pub receiving : Receiving old new lines reads bytes wakes
+pub record IsReceiving (old new : Snapshot) (lines reads bytes wakes told : ℕ) : Type 0 where
+  pub receiving : Receiving old new lines reads bytes wakes told
   pub late : new.wire.last_got ≡ Some got.Later → new.wire.reads ≡ old.wire.reads
   pub sound : NoReadFailed old new
   pub after_end : old.wire.last_got ≡ Some got.End → reads ≡ 0
@@ -106,7 +157,7 @@ pub record IsReceiving (old new : Snapshot) (lines reads bytes wakes : ℕ) : Ty
   pub few_reads : reads ≤ 16
   pub few_bytes : bytes ≤ 65536
 
-pub begins : (a : Snapshot) (wakes : ℕ) → ((home : ℕ) → has_home wakes home ≡ false) → IsReceiving a a 0 0 0 wakes
+pub begins : (a : Snapshot) (wakes : ℕ) → ((home : ℕ) → has_home wakes home ≡ false) → IsReceiving a a 0 0 0 wakes 0
 begins a wakes none =
     record { receiving = receiving_none a wakes none; late = λ _. refl; sound = λ rose failed. absurd (omega (arith, rose)); after_end = λ _. refl; few_lines = omega arith; few_reads = omega arith; few_bytes = omega arith }
 
@@ -124,13 +175,14 @@ said_within left session how said is within = subst (λ (x : Step). StaysWithin 
 lines_fit : (m : ℕ) (left : Left) (said : Said) → m ≤ 64 → left.lines ≡ 64 - m → IsWithin left.lines said → m + said.lines ≤ 64
 lines_fit m left said few left_is fits = omega (arith, few, left_is, fits.0)
 
-pub goes_on_said : (a b c : Snapshot) (m k p wakes : ℕ) (left : Left) (said : Said) (all : ℕ) (how : Step) → how ≡ step.Said said → left.lines ≡ 64 - m → StaysWithin left c.conn.session how
-    → IsReceiving a b m k p wakes → ReceivesNext b c how
-    → ((home : ℕ) → has_home all home ≡ (has_home wakes home || has_home said.wakes home)) → IsReceiving a c (m + said.lines) k p all
-goes_on_said a b c m k p wakes left said all how is left_is within h found both =
+pub goes_on_said : (a b c : Snapshot) (m k p wakes told : ℕ) (left : Left) (said : Said) (all sum : ℕ) (how : Step) → how ≡ step.Said said → left.lines ≡ 64 - m
+    → StaysWithin left c.conn.session how → IsReceiving a b m k p wakes told → ReceivesNext b c how
+    → ((home : ℕ) → has_home all home ≡ (has_home wakes home || has_home said.wakes home)) → Adds told said.told sum
+    → IsReceiving a c (m + said.lines) k p all sum
+goes_on_said a b c m k p wakes told left said all sum how is left_is within h found both adds =
     let s : ReceivesNext b c (step.Said said) = subst (λ (x : Step). ReceivesNext b c x) is found in
     record {
-      receiving = receiving_said a b c m k p wakes said all h.receiving s both;
+      receiving = receiving_said a b c m k p wakes told said all sum h.receiving s both adds;
       late = λ e. s.only.reads_are ∙ ap (λ n. b.wire.reads + n) s.step_is.0 ∙ add-zero b.wire.reads ∙ h.late (sym (s.only.still s.step_is.0) ∙ e);
       sound = no_fault_then a b c s.reads 0 s.step_is.0 s.only h.sound;
       after_end = h.after_end;
@@ -139,13 +191,13 @@ goes_on_said a b c m k p wakes left said all how is left_is within h found both 
       few_bytes = h.few_bytes;
     }
 
-pub goes_on_read : (a b c : Snapshot) (m k p q wakes : ℕ) (left : Left) (how : Step) → how ≡ step.Read q → k < 16 → left.bytes ≡ 65536 - p → StaysWithin left c.conn.session how
-    → IsReceiving a b m k p wakes → ReceivesNext b c how → IsReceiving a c m (k + 1) (p + q) wakes
-goes_on_read a b c m k p q wakes left how is few left_is within h found =
+pub goes_on_read : (a b c : Snapshot) (m k p q wakes told : ℕ) (left : Left) (how : Step) → how ≡ step.Read q → k < 16 → left.bytes ≡ 65536 - p
+    → StaysWithin left c.conn.session how → IsReceiving a b m k p wakes told → ReceivesNext b c how → IsReceiving a c m (k + 1) (p + q) wakes told
+goes_on_read a b c m k p q wakes told left how is few left_is within h found =
     let s : ReceivesNext b c (step.Read q) = subst (λ (x : Step). ReceivesNext b c x) is found in
     let fits : q ≤ left.bytes = subst (λ (x : Step). StaysWithin left c.conn.session x) is within in
     record {
-      receiving = receiving_read a b c m k p q wakes h.receiving s;
+      receiving = receiving_read a b c m k p q wakes told h.receiving s;
       late = λ e. absurd (cc (e, s.step_is.2));
       sound = λ _ e. absurd (cc (e, s.step_is.2));
       after_end = λ end. ap (λ n. k + n) (sym s.step_is.1) ∙ end_stays a b c k s.reads p h.receiving.only h.after_end s.may_read end;
@@ -156,9 +208,9 @@ goes_on_read a b c m k p q wakes left how is few left_is within h found =
 
 -- ---- where receiving ends
 
-ended : (a c : Snapshot) (m k p left wakes : ℕ) (how : ReceiveState) → m ≤ 64 → k ≤ 16 → p ≤ 65536 → (a.wire.last_got ≡ Some got.End → k ≡ 0) → (h : Receiving a c m k p wakes) → ReceivedIs a c left h.says.talk how
-    → Receives a c left how wakes
-ended a c m k p left wakes how few_lines few few_bytes after_end h is = record {
+ended : (a c : Snapshot) (m k p : ℕ) (share : Share) (wakes : ℕ) (how : ReceiveState) → m ≤ 64 → k ≤ 16 → p ≤ 65536 → (a.wire.last_got ≡ Some got.End → k ≡ 0) → (h : Receiving a c m k p wakes share.told) → ReceivedIs a c share h.says.talk how
+    → Receives a c share how wakes
+ended a c m k p share wakes how few_lines few few_bytes after_end h is = record {
   talk = h.says.talk;
   went = h.says.went;
   own = h.says.said.own;
@@ -172,16 +224,17 @@ ended a c m k p left wakes how few_lines few few_bytes after_end h is = record {
   few_bytes = few_bytes;
   only = h.only;
   wakes_are = h.says.said.wakes_are;
+  told_is = h.told_is;
   received_is = is;
 }
 
 -- by a step that gave no bytes and said no line
-stops : (a b c : Snapshot) (m k p left wakes : ℕ) (how : Step) (state : ReceiveState) → k < 16 → IsReceiving a b m k p wakes → (s : ReceivesNext b c how) → bytes_of how ≡ 0 → s.talk ≡ []
-    → ((talk : List Moment) → ReceivedIs a c left talk state) → Receives a c left state wakes
-stops a b c m k p left wakes how state few h s no_bytes none is =
-    let all : Receiving a c m (k + s.reads) p wakes =
-    subst (λ (n : ℕ). Receiving a c m (k + s.reads) n wakes) (ap (λ n. p + n) no_bytes ∙ add-zero p) (quietly a b c m k s.reads p (bytes_of how) wakes s.talk h.receiving s.went s.only none) in
-    ended a c m (k + s.reads) p left wakes state h.few_lines (omega (arith, few, s.few)) h.few_bytes (end_stays a b c k s.reads p h.receiving.only h.after_end s.may_read) all (is all.says.talk)
+stops : (a b c : Snapshot) (m k p : ℕ) (share : Share) (wakes : ℕ) (how : Step) (state : ReceiveState) → k < 16 → IsReceiving a b m k p wakes share.told → (s : ReceivesNext b c how) → bytes_of how ≡ 0 → s.talk ≡ []
+    → ((talk : List Moment) → CountsTold share.told talk → ReceivedIs a c share talk state) → Receives a c share state wakes
+stops a b c m k p share wakes how state few h s no_bytes none is =
+    let all : Receiving a c m (k + s.reads) p wakes share.told =
+    subst (λ (n : ℕ). Receiving a c m (k + s.reads) n wakes share.told) (ap (λ n. p + n) no_bytes ∙ add-zero p) (quietly a b c m k s.reads p (bytes_of how) wakes share.told s.talk h.receiving s.went s.only none) in
+    ended a c m (k + s.reads) p share wakes state h.few_lines (omega (arith, few, s.few)) h.few_bytes (end_stays a b c k s.reads p h.receiving.only h.after_end s.may_read) all (is all.says.talk all.told_is)
 
 since_last : (a b c : Snapshot) → a.wire.reads ≤ b.wire.reads → (c.wire.last_got ≡ Some got.End) ⊎ ((c.wire.last_got ≡ Some got.Later) × (b.wire.reads < c.wire.reads))
     → (c.wire.last_got ≡ Some got.End) ⊎ ((c.wire.last_got ≡ Some got.Later) × (a.wire.reads < c.wire.reads))
@@ -195,15 +248,15 @@ since a b c rises h = record { fed = h.fed; nothing = h.nothing; last = since_la
 rises : (a b : Snapshot) (k p : ℕ) → OnlyReads a b k p → a.wire.reads ≤ b.wire.reads
 rises a b k p only = omega (arith, only.reads_are)
 
-receives_all : (a b c : Snapshot) (m k p left wakes : ℕ) (how : Step) → how ≡ (step.Ends receive.All) → k < 16 → IsReceiving a b m k p wakes → ReceivesNext b c how → Receives a c left receive.All wakes
-receives_all a b c m k p left wakes how is few h found =
+receives_all : (a b c : Snapshot) (m k p : ℕ) (share : Share) (wakes : ℕ) (how : Step) → how ≡ (step.Ends receive.All) → k < 16 → IsReceiving a b m k p wakes share.told → ReceivesNext b c how → Receives a c share receive.All wakes
+receives_all a b c m k p share wakes how is few h found =
     let s : ReceivesNext b c (step.Ends receive.All) = subst (λ (x : Step). ReceivesNext b c x) is found in
-    stops a b c m k p left wakes (step.Ends receive.All) receive.All few h s refl s.step_is.0 (λ talk. (λ _. no_fault_all b c s.step_is.1, since a b c (rises a b k p h.receiving.only) s.step_is.1))
+    stops a b c m k p share wakes (step.Ends receive.All) receive.All few h s refl s.step_is.0 (λ talk counts. (λ _. no_fault_all b c s.step_is.1, since a b c (rises a b k p h.receiving.only) s.step_is.1))
 
-receives_stop : (a b c : Snapshot) (m k p left wakes : ℕ) (how : Step) → how ≡ (step.Ends receive.Stop) → k < 16 → IsReceiving a b m k p wakes → ReceivesNext b c how → Receives a c left receive.Stop wakes
-receives_stop a b c m k p left wakes how is few h found =
+receives_stop : (a b c : Snapshot) (m k p : ℕ) (share : Share) (wakes : ℕ) (how : Step) → how ≡ (step.Ends receive.Stop) → k < 16 → IsReceiving a b m k p wakes share.told → ReceivesNext b c how → Receives a c share receive.Stop wakes
+receives_stop a b c m k p share wakes how is few h found =
     let s : ReceivesNext b c (step.Ends receive.Stop) = subst (λ (x : Step). ReceivesNext b c x) is found in
-    stops a b c m k p left wakes (step.Ends receive.Stop) receive.Stop few h s refl s.step_is.0 (λ talk. s.step_is.1)
+    stops a b c m k p share wakes (step.Ends receive.Stop) receive.Stop few h s refl s.step_is.0 (λ talk counts. s.step_is.1)
 
 -- without a read in between there is the same to receive since an earlier place
 to_receive : (a b c : Snapshot) → (b.wire.last_got ≡ Some got.Later → b.wire.reads ≡ a.wire.reads) → c.wire.last_got ≡ b.wire.last_got → HasToReceive b c → HasToReceive a c
@@ -211,50 +264,68 @@ to_receive a b c late still (has_bytes some unspoilt) = has_bytes some unspoilt
 to_receive a b c late still (has_line h) = has_line h
 to_receive a b c late still (has_more h) = has_more (record { fed = h.fed; nothing = h.nothing; on = h.on; sound = h.sound; late = λ e. h.late e ∙ late (sym still ∙ e) })
 
-receives_memory : (a b c : Snapshot) (m k p left wakes : ℕ) (how : Step) → how ≡ (step.Ends receive.Memory) → k < 16 → IsReceiving a b m k p wakes → ReceivesNext b c how → Receives a c left receive.Memory wakes
-receives_memory a b c m k p left wakes how is few h found =
+receives_memory : (a b c : Snapshot) (m k p : ℕ) (share : Share) (wakes : ℕ) (how : Step) → how ≡ (step.Ends receive.Memory) → k < 16 → IsReceiving a b m k p wakes share.told → ReceivesNext b c how → Receives a c share receive.Memory wakes
+receives_memory a b c m k p share wakes how is few h found =
     let s : ReceivesNext b c (step.Ends receive.Memory) = subst (λ (x : Step). ReceivesNext b c x) is found in
-    stops a b c m k p left wakes (step.Ends receive.Memory) receive.Memory few h s refl s.step_is.0
-    (λ talk. (no_fault_then a b c s.reads 0 s.step_is.1 s.only h.sound, to_receive a b c h.late (s.only.still s.step_is.1) s.step_is.2))
+    stops a b c m k p share wakes (step.Ends receive.Memory) receive.Memory few h s refl s.step_is.0
+    (λ talk counts. (no_fault_then a b c s.reads 0 s.step_is.1 s.only h.sound, to_receive a b c h.late (s.only.still s.step_is.1) s.step_is.2))
 
 -- where memory was refused behind some lines
-pub receives_refused : (a b c : Snapshot) (m k p left wakes : ℕ) (before : Left) (said : Said) (all : ℕ) (how : Step) → how ≡ step.Said said → said.refused ≡ true → before.lines ≡ 64 - m → StaysWithin before c.conn.session how
-    → IsReceiving a b m k p wakes → ReceivesNext b c how
-    → ((home : ℕ) → has_home all home ≡ (has_home wakes home || has_home said.wakes home)) → Receives a c left receive.Memory all
-receives_refused a b c m k p left wakes before said all how is refused left_is within h found both =
+pub receives_refused : (a b c : Snapshot) (m k p : ℕ) (share : Share) (wakes told : ℕ) (before : Left) (said : Said) (all : ℕ) (how : Step) → how ≡ step.Said said → said.refused ≡ true → before.lines ≡ 64 - m → StaysWithin before c.conn.session how
+    → IsReceiving a b m k p wakes told → ReceivesNext b c how
+    → ((home : ℕ) → has_home all home ≡ (has_home wakes home || has_home said.wakes home)) → Adds told said.told share.told
+    → Receives a c share receive.Memory all
+receives_refused a b c m k p share wakes told before said all how is refused left_is within h found both adds =
     let s : ReceivesNext b c (step.Said said) = subst (λ (x : Step). ReceivesNext b c x) is found in
     let fits = said_within before c.conn.session how said is within in
-    ended a c (m + said.lines) k p left all receive.Memory (lines_fit m before said h.few_lines left_is fits.0) h.few_reads h.few_bytes h.after_end (receiving_said a b c m k p wakes said all h.receiving s both)
+    ended a c (m + said.lines) k p share all receive.Memory (lines_fit m before said h.few_lines left_is fits.0) h.few_reads h.few_bytes h.after_end (receiving_said a b c m k p wakes told said all share.told h.receiving s both adds)
     (no_fault_then a b c s.reads 0 s.step_is.0 s.only h.sound, has_line (stays_next before.lines before.told c.conn.session said fits.1 refused))
 
 -- where the turn told enough
-receives_enough : (a b c : Snapshot) (m k p left wakes : ℕ) (before : Left) (how : Step) → before.told ≡ left → how ≡ (step.Ends receive.Again) → k < 16 → StaysWithin before c.conn.session how
-    → IsReceiving a b m k p wakes → ReceivesNext b c how → Receives a c left receive.Again wakes
-receives_enough a b c m k p left wakes before how same is few within h found =
+spent_of : (share : Share) (talk : List Moment) → CountsTold share.told talk → left_of share ≡ Some 0 → IsSpent share talk
+spent_of share talk counts none = record { met = met_of share.allowance none; said = said_of talk counts share.allowance none }
+  where
+    met_of : (allowance : Option ℕ) → option_map (λ most. most - share.told) allowance ≡ Some 0 → HasTold allowance share.told
+    met_of None e = absurd (cc (e))
+    met_of (Some most) e = let spent : most - share.told ≡ 0 = cc (e) in omega (arith, spent)
+
+    said_of : (talk : List Moment) → CountsTold share.told talk → (allowance : Option ℕ) → option_map (λ most. most - share.told) allowance ≡ Some 0
+        → (talk ≢ []) ⊎ (allowance ≡ Some 0)
+    said_of [] counts None e = absurd (cc (e))
+    said_of [] counts (Some most) e =
+        let spent : most - share.told ≡ 0 = cc (e) in
+        let untold : share.told ≡ 0 = counts (omega arith) in
+        let none : most ≡ 0 = omega (arith, spent, untold) in
+        inr (ap (λ n. Some n) none)
+    said_of (m ∷ talk) counts allowance e = inl (λ none. absurd (cc (none)))
+
+pub receives_enough : (a b c : Snapshot) (m k p : ℕ) (share : Share) (wakes : ℕ) (before : Left) (how : Step) → before.told ≡ left_of share → how ≡ (step.Ends receive.Again) → k < 16
+    → StaysWithin before c.conn.session how → IsReceiving a b m k p wakes share.told → ReceivesNext b c how → Receives a c share receive.Again wakes
+receives_enough a b c m k p share wakes before how same is few within h found =
     let s : ReceivesNext b c (step.Ends receive.Again) = subst (λ (x : Step). ReceivesNext b c x) is found in
-    let none : left ≡ 0 = sym same ∙ subst (λ (x : Step). StaysWithin before c.conn.session x) is within in
-    stops a b c m k p left wakes (step.Ends receive.Again) receive.Again few h s refl s.step_is.0
-    (λ talk. (no_fault_then a b c s.reads 0 s.step_is.1 s.only h.sound, record { limit = most_told (none, s.step_is.3); fed = s.step_is.2; unspoilt = line_is_sound c.conn.session (loud_is_line c.conn.session s.step_is.3) }))
+    let none : left_of share ≡ Some 0 = sym same ∙ subst (λ (x : Step). StaysWithin before c.conn.session x) is within in
+    stops a b c m k p share wakes (step.Ends receive.Again) receive.Again few h s refl s.step_is.0
+    (λ talk counts. (no_fault_then a b c s.reads 0 s.step_is.1 s.only h.sound, record { limit = most_told (spent_of share talk counts none) s.step_is.3; fed = s.step_is.2; unspoilt = line_is_sound c.conn.session (loud_is_line c.conn.session s.step_is.3) }))
 
 -- where a step ends it
-pub receives_ends : (a b c : Snapshot) (m k p left wakes : ℕ) (before : Left) (how : Step) (state : ReceiveState) → before.told ≡ left → how ≡ step.Ends state → k < 16 → StaysWithin before c.conn.session how
-    → IsReceiving a b m k p wakes → ReceivesNext b c how → Receives a c left state wakes
-receives_ends a b c m k p left wakes before how receive.All same is few within h found = receives_all a b c m k p left wakes how is few h found
-receives_ends a b c m k p left wakes before how receive.Again same is few within h found = receives_enough a b c m k p left wakes before how same is few within h found
-receives_ends a b c m k p left wakes before how receive.Stop same is few within h found = receives_stop a b c m k p left wakes how is few h found
-receives_ends a b c m k p left wakes before how receive.Memory same is few within h found = receives_memory a b c m k p left wakes how is few h found
+pub receives_ends : (a b c : Snapshot) (m k p : ℕ) (share : Share) (wakes : ℕ) (before : Left) (how : Step) (state : ReceiveState) → before.told ≡ left_of share → how ≡ step.Ends state → k < 16 → StaysWithin before c.conn.session how
+    → IsReceiving a b m k p wakes share.told → ReceivesNext b c how → Receives a c share state wakes
+receives_ends a b c m k p share wakes before how receive.All same is few within h found = receives_all a b c m k p share wakes how is few h found
+receives_ends a b c m k p share wakes before how receive.Again same is few within h found = receives_enough a b c m k p share wakes before how same is few within h found
+receives_ends a b c m k p share wakes before how receive.Stop same is few within h found = receives_stop a b c m k p share wakes how is few h found
+receives_ends a b c m k p share wakes before how receive.Memory same is few within h found = receives_memory a b c m k p share wakes how is few h found
 
 -- at a limit
-most_are : (a c : Snapshot) (m k p left wakes : ℕ) → (m ≡ 64) ⊎ ((k ≡ 16) ⊎ (p ≡ 65536)) → (h : Receiving a c m k p wakes) → IsMost a c left h.says.talk
-most_are a c m k p left wakes (inl lines) h = most_lines (h.says.said.lines_are ∙ lines)
-most_are a c m k p left wakes (inr (inl reads)) h = most_reads (h.only.reads_are ∙ ap (λ n. a.wire.reads + n) reads)
-most_are a c m k p left wakes (inr (inr bytes)) h = most_bytes (omega (arith, h.only.reads_are, h.only.at_once, bytes)) (subst (λ (n : ℕ). ReadsBytes a.wire c.wire n) bytes h.only.bytes_are)
+most_are : (a c : Snapshot) (m k p : ℕ) (share : Share) (wakes : ℕ) → (m ≡ 64) ⊎ ((k ≡ 16) ⊎ (p ≡ 65536)) → (h : Receiving a c m k p wakes share.told) → IsMost a c share h.says.talk
+most_are a c m k p share wakes (inl lines) h = most_lines (h.says.said.lines_are ∙ lines)
+most_are a c m k p share wakes (inr (inl reads)) h = most_reads (h.only.reads_are ∙ ap (λ n. a.wire.reads + n) reads)
+most_are a c m k p share wakes (inr (inr bytes)) h = most_bytes (omega (arith, h.only.reads_are, h.only.at_once, bytes)) (subst (λ (n : ℕ). ReadsBytes a.wire c.wire n) bytes h.only.bytes_are)
 
-limit_is : (a c : Snapshot) (m k p left wakes : ℕ) (how : ReceiveState) → (m ≡ 64) ⊎ ((k ≡ 16) ⊎ (p ≡ 65536)) → NoReadFailed a c → (h : Receiving a c m k p wakes) → LimitIs c.conn how → ReceivedIs a c left h.says.talk how
-limit_is a c m k p left wakes receive.All met sound h limit = absurd limit
-limit_is a c m k p left wakes receive.Again met sound h limit = (sound, record { limit = most_are a c m k p left wakes met h; fed = limit.0; unspoilt = limit.1 })
-limit_is a c m k p left wakes receive.Stop met sound h limit = inl limit
-limit_is a c m k p left wakes receive.Memory met sound h limit = (sound, has_bytes limit.0 limit.1)
+limit_is : (a c : Snapshot) (m k p : ℕ) (share : Share) (wakes : ℕ) (how : ReceiveState) → (m ≡ 64) ⊎ ((k ≡ 16) ⊎ (p ≡ 65536)) → NoReadFailed a c → (h : Receiving a c m k p wakes share.told) → LimitIs c.conn how → ReceivedIs a c share h.says.talk how
+limit_is a c m k p share wakes receive.All met sound h limit = absurd limit
+limit_is a c m k p share wakes receive.Again met sound h limit = (sound, record { limit = most_are a c m k p share wakes met h; fed = limit.0; unspoilt = limit.1 })
+limit_is a c m k p share wakes receive.Stop met sound h limit = inl limit
+limit_is a c m k p share wakes receive.Memory met sound h limit = (sound, has_bytes limit.0 limit.1)
 
 pub only_none : (a c : Snapshot) → c.wire ≡ a.wire → c.conn.unwritten ≡ a.conn.unwritten → OnlyReads a c 0 0
 only_none a c same unwritten = record {
@@ -275,14 +346,14 @@ met m k p few_lines few few_bytes (inl many) = inl (omega (arith, many, few_line
 met m k p few_lines few few_bytes (inr (inl many)) = inr (inl (omega (arith, many, few)))
 met m k p few_lines few few_bytes (inr (inr many)) = inr (inr (omega (arith, many, few_bytes)))
 
-pub receives_limit : (a b c : Snapshot) (m k p left wakes : ℕ) (how : ReceiveState) → (64 ≤ m) ⊎ ((16 ≤ k) ⊎ (65536 ≤ p)) → IsReceiving a b m k p wakes → Went b c [] → c.wire ≡ b.wire → c.conn.unwritten ≡ b.conn.unwritten
-    → LimitIs c.conn how → Receives a c left how wakes
-receives_limit a b c m k p left wakes how many h went same unwritten limit =
+pub receives_limit : (a b c : Snapshot) (m k p : ℕ) (share : Share) (wakes : ℕ) (how : ReceiveState) → (64 ≤ m) ⊎ ((16 ≤ k) ⊎ (65536 ≤ p)) → IsReceiving a b m k p wakes share.told → Went b c [] → c.wire ≡ b.wire → c.conn.unwritten ≡ b.conn.unwritten
+    → LimitIs c.conn how → Receives a c share how wakes
+receives_limit a b c m k p share wakes how many h went same unwritten limit =
     let only : OnlyReads b c 0 0 = only_none b c same unwritten in
-    let all : Receiving a c m k p wakes =
-    subst (λ (n : ℕ). Receiving a c m n p wakes) (add-zero k) (subst (λ (n : ℕ). Receiving a c m (k + 0) n wakes) (add-zero p) (quietly a b c m k 0 p 0 wakes [] h.receiving went only refl)) in
-    ended a c m k p left wakes how h.few_lines h.few_reads h.few_bytes h.after_end all
-    (limit_is a c m k p left wakes how (met m k p h.few_lines h.few_reads h.few_bytes many) (no_fault_then a b c 0 0 refl only h.sound) all limit)
+    let all : Receiving a c m k p wakes share.told =
+    subst (λ (n : ℕ). Receiving a c m n p wakes share.told) (add-zero k) (subst (λ (n : ℕ). Receiving a c m (k + 0) n wakes share.told) (add-zero p) (quietly a b c m k 0 p 0 wakes share.told [] h.receiving went only refl)) in
+    ended a c m k p share wakes how h.few_lines h.few_reads h.few_bytes h.after_end all
+    (limit_is a c m k p share wakes how (met m k p h.few_lines h.few_reads h.few_bytes many) (no_fault_then a b c 0 0 refl only h.sound) all limit)
 
 -- ---- single steps
 
@@ -295,7 +366,7 @@ unasked a c some = absurd (omega (arith, some))
 
 step_behind : (a b c : Snapshot) (talk : List Moment) (reads : ℕ) (how : Step) → b.wire ≡ a.wire → b.conn.unwritten ≡ a.conn.unwritten → b.conn.session.client ≡ a.conn.session.client → OnlyReads b c reads (bytes_of how)
     → StepIs b c talk reads how → StepIs a c talk reads how
-step_behind a b c talk reads (step.Said said) same unwritten client only is = (is.0, subst (λ (d : ℕ). AreSaid d talk said.lines said.wakes) client is.1)
+step_behind a b c talk reads (step.Said said) same unwritten client only is = (is.0, subst (λ (d : ℕ). AreSaid d talk said.lines said.wakes 0 said.told) client is.1)
 step_behind a b c talk reads (step.Ends receive.Again) same unwritten client only is = is
 step_behind a b c talk reads (step.Read bytes) same unwritten client only is = is
 step_behind a b c talk reads (step.Ends receive.All) same unwritten client only is = (is.0, since a b c (rises a b 0 0 (only_none a b same unwritten)) is.1)
@@ -318,7 +389,7 @@ fed_first a b c how went same unwritten s = record {
   step_is = step_behind a b c s.talk s.reads how same unwritten went.client s.only s.step_is;
 }
 
-pub said_next : (a b : Snapshot) (said : Said) → b.wire ≡ a.wire → SaysLines a b said.lines said.wakes → ReceivesNext a b (step.Said said)
+pub said_next : (a b : Snapshot) (said : Said) → b.wire ≡ a.wire → SaysLines a b said.lines said.wakes 0 said.told → ReceivesNext a b (step.Said said)
 said_next a b said same s = record {
   talk = s.talk;
   went = s.went;

@@ -1,5 +1,6 @@
 -- What receiving from a client did.
-use Rattle.std.specs.Prelude.{◌≡◌, ◌≢◌, ◌⊎◌, ℕ, ◌+◌, ◌*◌, ◌<◌, ◌≤◌, false, List, [], length, Some}
+use Rattle.std.specs.Prelude.{◌≡◌, ◌≢◌, ◌⊎◌, ℕ, ◌+◌, ◌-◌, ◌*◌, ◌^◌, ◌<◌, ◌≤◌, false, List, [], length, Option, Some}
+use Rattle.std.specs.Option.{option_map}
 use Rattle.lobby_post.specs.Mask.{has_home}
 use Rattle.client_session.specs.declared.session.Next.TheVariants.{Nothing, Spoilt}
 use Rattle.client_session.specs.OneSession.{IsNextOf, HasLineNext}
@@ -12,11 +13,11 @@ use Rattle.lobby_turns.specs.declared.receiving.Left.{Left}
 use Rattle.lobby_turns.specs.declared.receiving.Step.{Step}
 use Rattle.lobby_turns.specs.declared.receiving.Step.TheVariants as step
 use Rattle.lobby_holds.specs.Wire.{ReadsBytes}
-use Rattle.lobby_holds.specs.Moments.{Moment, requests, touched, told_end}
+use Rattle.lobby_holds.specs.Moments.{Moment, requests, touched, told_end, work_of}
 use Rattle.lobby_holds.specs.Snapshot.{Carried, Snapshot}
 use Rattle.lobby_holds.specs.Talk.{AreTalk}
 use Rattle.lobby_holds.specs.Went.{Went}
-use Rattle.lobby_holds.specs.Holds.{AreSaid, IsWithin, HasNoSpoiltNext, HasLoudNext, StopsAt}
+use Rattle.lobby_holds.specs.Holds.{AreSaid, IsWithin, HasNoSpoiltNext, HasLoudNext, HasTold, StopsAt}
 
 -- So many reads were made, of so many bytes in all and 16,384 at most, and no write, and each failed at most once.
 -- Without a read its last answer is as it was. What is to be written is as it was
@@ -54,21 +55,38 @@ pub record MayHaveMore (old new : Snapshot) : Type 0 where
 abbrev pub NoReadFailed : Snapshot → Snapshot → Type 0
 NoReadFailed old new = old.wire.reads < new.wire.reads → new.wire.last_got ≢ Some got.Fault
 
--- nothing is left of what may be told, and a line is next that is not quiet
-abbrev pub ToldEnough : ℕ → Snapshot → Type 0
-ToldEnough left new = (left ≡ 0) × HasLoudNext new.conn.session
+-- how much a turn may tell, where there is a bound, and how much its lines told
+pub record Share : Type 0 where
+  pub allowance : Option ℕ
+  pub told : ℕ
 
--- 64 lines were said to the lobby, or 16 reads were made, or 65,536 bytes were read, in four reads at least, or it told
--- enough
-pub data IsMost (old new : Snapshot) (left : ℕ) (talk : List Moment) : Type 0 where
-  most_lines : length (requests talk) ≡ 64 → IsMost old new left talk
-  most_reads : new.wire.reads ≡ old.wire.reads + 16 → IsMost old new left talk
-  most_bytes : old.wire.reads + 4 ≤ new.wire.reads → ReadsBytes old.wire new.wire 65536 → IsMost old new left talk
-  most_told : ToldEnough left new → IsMost old new left talk
+abbrev pub share_of : Option ℕ → ℕ → Share
+share_of allowance told = record { allowance = allowance; told = told }
+
+-- what is left of it
+abbrev pub left_of : Share → Option ℕ
+left_of share = option_map (λ most. most - share.told) share.allowance
+
+-- as much was told as may be: something was said, or nothing may be told
+pub record IsSpent (share : Share) (talk : List Moment) : Type 0 where
+  pub met : HasTold share.allowance share.told
+  pub said : (talk ≢ []) ⊎ (share.allowance ≡ Some 0)
+
+-- the count is what was told, as far as a number of 64 bits can tell
+abbrev pub CountsTold : ℕ → List Moment → Type 0
+CountsTold told talk = work_of talk < 2 ^ 64 → told ≡ work_of talk
+
+-- 64 lines were said to the lobby, or 16 reads were made, or 65,536 bytes were read, in four reads at least, or as much
+-- was told as may be and a line is next that is not quiet
+pub data IsMost (old new : Snapshot) (share : Share) (talk : List Moment) : Type 0 where
+  most_lines : length (requests talk) ≡ 64 → IsMost old new share talk
+  most_reads : new.wire.reads ≡ old.wire.reads + 16 → IsMost old new share talk
+  most_bytes : old.wire.reads + 4 ≤ new.wire.reads → ReadsBytes old.wire new.wire 65536 → IsMost old new share talk
+  most_told : IsSpent share talk → HasLoudNext new.conn.session → IsMost old new share talk
 
 -- it came to one of these limits; and all that was read was fed, and no spoilt place is next
-pub record ReceivesMost (old new : Snapshot) (left : ℕ) (talk : List Moment) : Type 0 where
-  pub limit : IsMost old new left talk
+pub record ReceivesMost (old new : Snapshot) (share : Share) (talk : List Moment) : Type 0 where
+  pub limit : IsMost old new share talk
   pub fed : new.conn.unfed ≡ []
   pub unspoilt : HasNoSpoiltNext new.conn.session
 
@@ -90,7 +108,7 @@ pub record MayRead (old new : Snapshot) : Type 0 where
 -- off. A read gave as many bytes as were left at most
 abbrev pub StaysWithin : Left → Serving → Step → Type 0
 StaysWithin left session (step.Said said) = IsWithin left.lines said × StopsAt left.lines left.told session said
-StaysWithin left session (step.Ends receive.Again) = left.told ≡ 0
+StaysWithin left session (step.Ends receive.Again) = left.told ≡ Some 0
 StaysWithin left session (step.Read bytes) = bytes ≤ left.bytes
 StaysWithin left session (step.Ends receive.All) = Unit {0}
 StaysWithin left session (step.Ends receive.Stop) = Unit {0}
@@ -104,7 +122,8 @@ bytes_of (step.Ends state) = 0
 
 -- what a step did, in so many reads
 abbrev pub StepIs : Snapshot → Snapshot → List Moment → ℕ → Step → Type 0
-StepIs old new talk reads (step.Said said) = (reads ≡ 0) × AreSaid old.conn.session.client talk said.lines said.wakes
+StepIs old new talk reads (step.Said said) =
+    (reads ≡ 0) × AreSaid old.conn.session.client talk said.lines said.wakes 0 said.told
 StepIs old new talk reads (step.Ends receive.Again) =
     (talk ≡ []) × (reads ≡ 0) × (new.conn.unfed ≡ []) × HasLoudNext new.conn.session
 StepIs old new talk reads (step.Read bytes) = (talk ≡ []) × (reads ≡ 1) × (new.wire.last_got ≡ Some (got.Bytes bytes))
@@ -130,13 +149,13 @@ LimitIs conn receive.Stop = IsNextOf (Some conn.session) Spoilt
 LimitIs conn receive.Memory = (conn.unfed ≢ []) × HasNoSpoiltNext conn.session
 
 -- how far a turn received from the client
-abbrev pub ReceivedIs : Snapshot → Snapshot → ℕ → List Moment → ReceiveState → Type 0
-ReceivedIs old new left talk receive.All = NoReadFailed old new × IsAllReceived old new
-ReceivedIs old new left talk receive.Again = NoReadFailed old new × ReceivesMost old new left talk
-ReceivedIs old new left talk receive.Stop = IsOver new
-ReceivedIs old new left talk receive.Memory = NoReadFailed old new × HasToReceive old new
+abbrev pub ReceivedIs : Snapshot → Snapshot → Share → List Moment → ReceiveState → Type 0
+ReceivedIs old new share talk receive.All = NoReadFailed old new × IsAllReceived old new
+ReceivedIs old new share talk receive.Again = NoReadFailed old new × ReceivesMost old new share talk
+ReceivedIs old new share talk receive.Stop = IsOver new
+ReceivedIs old new share talk receive.Memory = NoReadFailed old new × HasToReceive old new
 
-pub record Receives (old new : Snapshot) (left : ℕ) (state : ReceiveState) (wakes : ℕ) : Type 0 where
+pub record Receives (old new : Snapshot) (share : Share) (state : ReceiveState) (wakes : ℕ) : Type 0 where
   pub talk : List Moment
   pub went : Went old new talk
   pub own : AreTalk old.conn.session.client talk
@@ -150,4 +169,5 @@ pub record Receives (old new : Snapshot) (left : ℕ) (state : ReceiveState) (wa
   pub few_bytes : bytes ≤ 65536
   pub only : OnlyReads old new reads bytes
   pub wakes_are : (home : ℕ) → has_home wakes home ≡ touched talk home
-  pub received_is : ReceivedIs old new left talk state
+  pub told_is : CountsTold share.told talk
+  pub received_is : ReceivedIs old new share talk state

@@ -1,7 +1,7 @@
 //! The half of a turn that receives from the client: what its link gives is fed to its session, whole lines are said to
 //! the lobby, and where none is left, the link is read.
 
-ghost use Rattle.std.specs.Prelude.{◌≡◌, ℕ, ◌-◌, ◌≤◌, ◌||◌, [], Some};
+ghost use Rattle.std.specs.Prelude.{◌≡◌, ℕ, ◌+◌, ◌^◌, ◌<◌, ◌≤◌, ◌||◌, [], Option, Some};
 ghost use Rattle.lobby_lock.specs.Passes.{ShownPass};
 ghost use Rattle.client_session.specs.declared.session.Next.TheVariants.{Nothing};
 ghost use Rattle.client_session.specs.OneSession.{IsNextOf};
@@ -9,7 +9,7 @@ ghost use Rattle.lobby_holds.specs.Wire.{Wire, MayGoOn, IsFresh};
 ghost use Rattle.lobby_holds.specs.Snapshot.{snapshot};
 ghost use Rattle.lobby_holds.specs.Went.{Went};
 ghost use Rattle.lobby_post.specs.Mask.{has_home};
-ghost use Rattle.lobby_turns.specs.Receiving.{StaysWithin, LimitIs, ReceivesNext, Receives};
+ghost use Rattle.lobby_turns.specs.Receiving.{StaysWithin, LimitIs, ReceivesNext, Receives, Share, left_of, share_of};
 
 use client_session::Next;
 use lobby_holds::holds::{self, Said};
@@ -36,8 +36,8 @@ pub(crate) struct Left {
     pub(crate) lines: usize,
     /// How many bytes it may read.
     pub(crate) bytes: usize,
-    /// How many pieces it may tell before it puts a line off.
-    pub(crate) told: u64,
+    /// How much it may tell before it puts a line off, if there is a bound.
+    pub(crate) told: Option<u64>,
 }
 
 /// How far a turn received from its client.
@@ -45,7 +45,7 @@ pub(crate) struct Left {
 pub(crate) enum ReceiveState {
     /// All that the link gave was said to the lobby.
     All,
-    /// A limit was met, or what may be told was told.
+    /// A limit was met, or as much was told as may be.
     Again,
     /// Nothing can come any more: the stream is spoilt, or the link failed.
     Stop,
@@ -58,14 +58,15 @@ pub(crate) enum ReceiveState {
 pub(crate) struct Received {
     /// The workers whose clients they touched.
     pub(crate) wakes: Wakes,
-    /// How many pieces they told.
+    /// How much they told.
     pub(crate) told: u64,
 }
 
 impl Received {
-    /// The same, and lines more, which touched the clients of these workers and told so many pieces.
+    /// The same, and lines more, which touched the clients of these workers and told so much.
     fn and(self, wakes: Wakes, told: u64) -> Received
-        ensures { (home : ℕ) → has_home result.wakes home ≡ (has_home self.wakes home || has_home wakes home) }
+        ensures wakes { (home : ℕ) → has_home result.wakes home ≡ (has_home self.wakes home || has_home wakes home) }
+        ensures told { self.told + told < 2 ^ 64 → result.told ≡ self.told + told }
     {
         Received {
             wakes: self.wakes.union(wakes),
@@ -81,7 +82,7 @@ pub(crate) enum Step {
     Said(Said),
     /// So many bytes were read.
     Read(usize),
-    /// The turn receives no more. It does so again where the next line is no quiet one, and the turn told enough.
+    /// The turn receives no more. It does so again where the next line is no quiet one, and as much was told as may be.
     Ends(ReceiveState),
 }
 
@@ -110,7 +111,7 @@ fn receive_link<L: Link>(conn: &mut Conn, link: &mut L, pass: Pass, most: usize)
 }
 
 /// Feeds what was read, and then says the next lines to the lobby, as many as are left, as long as they tell less than
-/// is left; where no line is next, reads the link.
+/// is left, if there is a bound; where no line is next, reads the link.
 fn receive_next<R: Wait, L: Link, G: Gate>(
     rt: &R,
     conn: &mut Conn,
@@ -132,7 +133,7 @@ fn receive_next<R: Wait, L: Link, G: Gate>(
     }
     match conn.next_request() {
         Ok(Next::Line(request)) => {
-            if left.told == 0 && !holds::is_quiet(&request.command) {
+            if left.told == Some(0) && !holds::is_quiet(&request.command) {
                 request.discard();
                 return (pass, Step::Ends(ReceiveState::Again));
             }
@@ -162,19 +163,29 @@ fn stop_at_limit(conn: &mut Conn) -> ReceiveState
     ReceiveState::Again
 }
 
-/// Receives from the client, as far as a turn may that may tell so many pieces.
+/// What is left to tell of so much, if there is a bound, behind so much.
+fn left_to_tell(allowance: Option<u64>, told: u64) -> Option<u64>
+    ensures { result ≡ left_of (share_of allowance told) }
+{
+    match allowance {
+        Some(most) => Some(most.saturating_sub(told)),
+        None => None,
+    }
+}
+
+/// Receives from the client, as far as a turn may that may tell so much, if there is a bound.
 pub(crate) fn receive<R: Wait, L: Link, G: Gate>(
     rt: &R,
     conn: &mut Conn,
     link: &mut L,
     desk: &GatedDesk<'_, G>,
     pass: Pass,
-    allowance: u64,
+    allowance: Option<u64>,
 ) -> (Pass, ReceiveState, Received)
     requires desk { pass.desk ≡ desk.now.desk.now }
     requires fresh { IsFresh (L.wire link.old) }
     ensures { Receives (snapshot conn.old (L.wire link.old) pass) (snapshot conn.new (L.wire link.new) result.0)
-        (allowance - result.2.told) result.1 result.2.wakes }
+        (share_of allowance result.2.told) result.1 result.2.wakes }
 {
     let mut pass = pass;
     let mut all = Received {
@@ -188,7 +199,7 @@ pub(crate) fn receive<R: Wait, L: Link, G: Gate>(
         let left = Left {
             lines: LINES - lines,
             bytes: BYTES - bytes,
-            told: allowance.saturating_sub(all.told),
+            told: left_to_tell(allowance, all.told),
         };
         let (next, step) = receive_next(rt, conn, link, desk, pass, left);
         pass = next;

@@ -1,6 +1,6 @@
 //! A turn of a connection.
 
-ghost use Rattle.std.specs.Prelude.{◌≡◌, ◌≢◌, ◌⊎◌, Some, None};
+ghost use Rattle.std.specs.Prelude.{◌≡◌, ◌≢◌, ◌⊎◌, ℕ, Some, None};
 ghost use Rattle.lobby_holds.specs.Wire.{Wire, IsFresh};
 ghost use Rattle.lobby_holds.specs.Snapshot.{snapshot};
 ghost use Rattle.lobby_turns.specs.Sending.{Sends};
@@ -53,8 +53,8 @@ fn note_end(conn: &mut Conn, sent: SendState)
 }
 
 /// Shuts the client of a connection, in a hold of its own. The state is `Closed`, and the workers whose clients that
-/// touched are to be woken besides these, and it told so many pieces besides. Where memory is refused, the client is
-/// not shut, and the state is `Memory`.
+/// touched are to be woken besides these. Where memory is refused, the client is not shut, and the state is `Memory`.
+/// Says how much the shut told, too, as the lobby counts it: nothing where it was refused.
 pub fn close<R: Wait, G: Gate>(
     rt: &R,
     conn: &Conn,
@@ -62,32 +62,29 @@ pub fn close<R: Wait, G: Gate>(
     pass: Pass,
     gate: &G,
     wakes: Wakes,
-    told: u64,
-) -> (Pass, Turn)
+) -> (Pass, Turn, u64)
     requires { pass.desk ≡ desk.now }
     ensures closes { (wire : Wire) → Closes (snapshot conn.now wire pass) (snapshot conn.now wire result.0) wakes
-        result.1 }
+        result.1 result.2 }
     ensures desk { result.0.desk ≡ pass.desk }
     ensures number { result.0.worker.number ≡ pass.worker.number }
 {
     let gated = GatedDesk { desk, gate };
-    let (pass, shut, more_told) = holds::shut(rt, conn, &gated, pass);
+    let (pass, shut, told) = holds::shut(rt, conn, &gated, pass);
     match shut {
         Ok(more) => {
             let turn = Turn {
                 state: TurnState::Closed,
                 wakes: wakes.union(more),
-                told: told.saturating_add(more_told),
             };
-            (pass, turn)
+            (pass, turn, told)
         }
         Err(_) => {
             let turn = Turn {
                 state: TurnState::Memory,
                 wakes,
-                told: told.saturating_add(more_told),
             };
-            (pass, turn)
+            (pass, turn, told)
         }
     }
 }
@@ -96,8 +93,7 @@ pub fn close<R: Wait, G: Gate>(
 /// read where no whole line is left; then what the lobby has for its client is drained, up to four
 /// pieces of at most 4,096 bytes in a hold, and written. A hold whose piece is the last also sees that
 /// nothing is left. A turn makes at most 16 reads, of 16,384 bytes at most and 65,536 in all, 64 lines
-/// and 16 writes, and nothing in it waits but the desk. Once it told as many pieces as it may, it says
-/// only lines that tell nobody else, or one user, and ends before any other.
+/// and 16 writes, and nothing in it waits but the desk.
 ///
 /// The client is shut, as the last event of the turn, where its stream is spoilt at the place that is
 /// next, its link failed, the lobby said that nothing will ever come of it, or its link has ended and
@@ -109,12 +105,34 @@ pub fn serve<R: Wait, L: Link, G: Gate>(
     desk: &Desk,
     pass: Pass,
     gate: &G,
-    allowance: u64,
 ) -> (Pass, Turn)
     requires desk { pass.desk ≡ desk.now }
     requires fresh { IsFresh (L.wire link.old) }
+    ensures turned { (told : ℕ) × Turned (snapshot conn.old (L.wire link.old) pass)
+        (snapshot conn.new (L.wire link.new) result.0) None result.1 told }
+    ensures desk { result.0.desk ≡ pass.desk }
+    ensures number { result.0.worker.number ≡ pass.worker.number }
+{
+    let (pass, turn, _) = serve_within(rt, conn, link, desk, pass, gate, None);
+    (pass, turn)
+}
+
+/// Serves a connection for one turn, as [`serve`] does, with one limit more: once its lines told as much as it may
+/// tell, if there is a bound, the turn says only lines that tell nobody else, or one user, and ends before any other.
+/// Says how much it told, too, as the lobby counts it.
+pub fn serve_within<R: Wait, L: Link, G: Gate>(
+    rt: &R,
+    conn: &mut Conn,
+    link: &mut L,
+    desk: &Desk,
+    pass: Pass,
+    gate: &G,
+    allowance: Option<u64>,
+) -> (Pass, Turn, u64)
+    requires desk { pass.desk ≡ desk.now }
+    requires fresh { IsFresh (L.wire link.old) }
     ensures turned { Turned (snapshot conn.old (L.wire link.old) pass) (snapshot conn.new (L.wire link.new) result.0)
-        allowance result.1 }
+        allowance result.1 result.2 }
     ensures desk { result.0.desk ≡ pass.desk }
     ensures number { result.0.worker.number ≡ pass.worker.number }
 {
@@ -126,13 +144,13 @@ pub fn serve<R: Wait, L: Link, G: Gate>(
             let turn = Turn {
                 state,
                 wakes: all.wakes,
-                told: all.told,
             };
-            (pass, turn)
+            (pass, turn, all.told)
         }
         None => {
             note_end(conn, sent);
-            close(rt, conn, desk, pass, gate, all.wakes, all.told)
+            let (pass, turn, told) = close(rt, conn, desk, pass, gate, all.wakes);
+            (pass, turn, all.told.saturating_add(told))
         }
     }
 }

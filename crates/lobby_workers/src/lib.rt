@@ -17,6 +17,7 @@ mod sleep;
 mod workers;
 
 pub use error::ServerError;
+pub use lobby_lock::{Made, Pass};
 pub use lobby_machine::HashSeed;
 pub use logged::{Log, run_server_logged};
 pub use record::{Record, RecordFiles};

@@ -4,12 +4,12 @@
 
 use crate::log_lines::Lines;
 use crate::sleep::WriterSleep;
-use crossbeam_queue::ArrayQueue;
 use server_log::{Happening, LogLevel, Started};
 use std::alloc::{AllocError, Global};
 use std::io::{ErrorKind, Write};
 use std::sync::Wait;
 use std::sync::atomic::{AtomicU64, Ordering};
+use worker_loop::StepQueue;
 
 /// The most happenings that wait to be written. A burst of logins fits, as long as lines are written faster than users
 /// log in; what comes while no line can be written is lost.
@@ -19,14 +19,16 @@ const WAITING: usize = 1_024;
 const GATHERING: u64 = 20;
 
 /// So many wake a thread that gathers.
-const MANY: usize = WAITING / 2;
+const MANY: u64 = WAITING as u64 / 2;
 
 /// What waits to be written. A worker puts and never waits: what finds no place is counted as lost, and its number is
 /// written as soon as a line can be.
 pub struct LogQueue {
     level: LogLevel,
     started: Started,
-    waiting: ArrayQueue<Happening>,
+    waiting: StepQueue<Happening>,
+    /// How many wait, or are about to.
+    count: AtomicU64,
     lost: AtomicU64,
     sleep: WriterSleep,
 }
@@ -38,11 +40,13 @@ impl Drop for LogQueue {
             level: _,
             started,
             waiting,
+            count,
             lost,
             sleep,
         } = self;
         drop(started);
         drop(waiting);
+        drop(count);
         drop(lost);
         drop(sleep);
     }
@@ -64,32 +68,35 @@ enum Tried {
 impl LogQueue {
     /// Nothing yet. Fails only where memory is refused.
     pub fn new(alloc: Global, level: LogLevel, started: Started) -> Result<LogQueue, AllocError> {
-        let waiting = ArrayQueue::new(alloc, WAITING)?;
+        let waiting = StepQueue::new(alloc, WAITING)?;
         Ok(LogQueue {
             level,
             started,
             waiting,
+            count: AtomicU64::new(0),
             lost: AtomicU64::new(0),
             sleep: WriterSleep::new(),
         })
     }
 
     /// Puts a happening, where its level is told.
-    pub(crate) fn put<R: Wait>(&self, rt: &R, happening: Happening) {
+    pub(crate) fn put(&self, happening: Happening) {
         if !self.level.tells(&happening) {
             return;
         }
-        if self.waiting.push(rt, happening).is_err() {
+        let before = self.count.fetch_add(1, Ordering::SeqCst);
+        if self.waiting.put(happening).is_err() {
+            self.count.fetch_sub(1, Ordering::SeqCst);
             self.lost.fetch_add(1, Ordering::SeqCst);
         }
-        if self.sleep.is_asleep() || (self.sleep.gathers() && self.waiting.len(rt) >= MANY) {
+        if self.sleep.is_asleep() || (self.sleep.gathers() && before >= MANY) {
             self.sleep.wake();
         }
     }
 
     /// Puts which server has started.
-    pub(crate) fn put_started<R: Wait>(&self, rt: &R) {
-        self.put(rt, Happening::Started(self.started.copy()));
+    pub(crate) fn put_started(&self) {
+        self.put(Happening::Started(self.started.copy()));
     }
 
     /// Nothing more will be put.
@@ -105,7 +112,7 @@ impl LogQueue {
         for _ in rt.forever() {
             let is_over = self.sleep.is_over();
             self.sleep.show();
-            match self.write_waiting(rt, &mut errors, &mut lines) {
+            match self.write_waiting(&mut errors, &mut lines) {
                 Tried::Written if is_over => {}
                 Tried::Written => self.gather(rt),
                 Tried::Nothing | Tried::Full | Tried::Failed if is_over => break,
@@ -120,16 +127,16 @@ impl LogQueue {
     /// Lets lines gather for a while, until they are many or nothing more will be put.
     fn gather<R: Wait>(&self, rt: &R) {
         self.sleep.show_gathering();
-        if self.waiting.len(rt) < MANY {
+        if self.count.load(Ordering::SeqCst) < MANY {
             self.sleep.gather(rt, GATHERING);
         }
     }
 
     /// Writes what waits, and how many were lost.
-    fn write_waiting<R: Wait, E: Write>(&self, rt: &R, errors: &mut E, lines: &mut Lines) -> Tried {
+    fn write_waiting<E: Write>(&self, errors: &mut E, lines: &mut Lines) -> Tried {
         let mut tried = Tried::Nothing;
         for _ in 0..WAITING {
-            self.fill(rt, lines);
+            self.fill(lines);
             if lines.is_empty() {
                 break;
             }
@@ -144,14 +151,15 @@ impl LogQueue {
 
     /// Adds what waits to the lines of a write, as far as they have room, and behind all of it how many were lost. One
     /// whose line is refused memory is lost.
-    fn fill<R: Wait>(&self, rt: &R, lines: &mut Lines) {
+    fn fill(&self, lines: &mut Lines) {
         for _ in 0..WAITING {
             if !lines.has_room() {
                 return;
             }
-            let Some(happening) = self.waiting.pop(rt) else {
+            let Some(happening) = self.waiting.take() else {
                 break;
             };
+            self.count.fetch_sub(1, Ordering::SeqCst);
             if !lines.add(&happening) {
                 self.lost.fetch_add(1, Ordering::SeqCst);
             }

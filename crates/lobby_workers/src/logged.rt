@@ -103,11 +103,7 @@ fn run_reported<R: Threads + Wait + Net + Sync, I: Read, O: Write, G: Gate + Syn
         output,
         gate,
     } = ends;
-    let reporter = Reporter {
-        rt,
-        gate,
-        log: queue,
-    };
+    let reporter = Reporter { gate, log: queue };
     run_service(rt, alloc, service, listener, input, output, &reporter)
 }
 

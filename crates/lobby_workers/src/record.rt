@@ -7,6 +7,7 @@
 mod end;
 mod files;
 mod lines;
+mod place;
 mod queue;
 mod recorder;
 

@@ -200,7 +200,7 @@ fn run_recorded<
         gate,
     } = ends;
     let Told { errors, log } = told;
-    let recorder = Recorder { rt, gate, queue };
+    let recorder = Recorder { gate, queue };
     run_server_logged(
         rt, alloc, service, listener, input, output, errors, &recorder, log,
     )

@@ -1,23 +1,24 @@
 //! The gate through which workers tell operators.
 
 use crate::log_queue::LogQueue;
-use lobby_model::MadeEvent;
+use lobby_lock::{Made, Pass};
 use server_log::Happening;
-use std::sync::Wait;
 use worker_loop::Gate;
 
 /// A gate that also puts what operators are told.
 #[derive(Drop)]
-pub struct Reporter<'a, 'g, R: Wait, G> {
-    /// To put with.
-    pub rt: &'a R,
+pub struct Reporter<'a, 'g, G> {
     /// What is told what workers do.
     pub gate: &'g G,
     /// Where it puts.
     pub log: &'a LogQueue,
 }
 
-impl<R: Wait, G: Gate> Gate for Reporter<'_, '_, R, G> {
+impl<G: Gate> Gate for Reporter<'_, '_, G> {
+    ghost wants = { λ reporter. G.wants reporter.gate.now };
+
+    ghost handed = { λ reporter. G.handed reporter.gate.now };
+
     fn before_take(&self, worker: u8) {
         self.gate.before_take(worker);
     }
@@ -26,8 +27,8 @@ impl<R: Wait, G: Gate> Gate for Reporter<'_, '_, R, G> {
         self.gate.wants_events()
     }
 
-    fn made(&self, worker: u8, events: &[MadeEvent]) {
-        self.gate.made(worker, events);
+    fn made(&self, made: Made) -> Pass {
+        self.gate.made(made)
     }
 
     fn after_write(&self, worker: u8, bytes: &[u8]) {
@@ -43,10 +44,10 @@ impl<R: Wait, G: Gate> Gate for Reporter<'_, '_, R, G> {
     }
 
     fn listening(&self) {
-        self.log.put_started(self.rt);
+        self.log.put_started();
     }
 
     fn tell(&self, happening: Happening) {
-        self.log.put(self.rt, happening);
+        self.log.put(happening);
     }
 }

@@ -144,7 +144,7 @@ fn serve_until_end<R: Threads + Wait + Net + Sync, I: Read, O: Write, G: Gate + 
     } = service;
     let keep_events = gate.wants_events();
     let (desk, pass) = open_desk(rt, alloc, settings, accounts, seed, keep_events)?;
-    let mut handles = Handles::new(alloc, proxies);
+    let mut handles = Handles::new(alloc, proxies)?;
     handles.keep_events = keep_events;
     let ended = match new_workers(rt, alloc, &desk, pass, workers, listener, &mut handles) {
         Ok((first, others)) => {
@@ -153,6 +153,7 @@ fn serve_until_end<R: Threads + Wait + Net + Sync, I: Read, O: Write, G: Gate + 
                 inboxes: &handles.inboxes,
                 wakers: &handles.wakers,
                 stop: &handles.stop,
+                reserve: &handles.reserve,
                 gate,
             };
             let streams = Streams {
@@ -334,8 +335,12 @@ fn start<'s, 'e, R: Wait + Sync, G: Gate + Sync>(
     let promise = SamePass(Snapshot::of(&worker.pass));
     let NewWorker { listener, pass } = worker;
     let (desk, inboxes, wakers) = (shared.desk, shared.inboxes, shared.wakers);
-    let (stop, gate) = (shared.stop, shared.gate);
-    let work = move || run_worker(rt, alloc, desk, pass, listener, inboxes, wakers, stop, gate);
+    let (stop, reserve, gate) = (shared.stop, shared.reserve, shared.gate);
+    let work = move || {
+        run_worker(
+            rt, alloc, desk, pass, listener, inboxes, wakers, stop, reserve, gate,
+        )
+    };
     match scope.spawn_with(promise, work) {
         Ok(thread) => Ok(thread),
         Err(refused) => {

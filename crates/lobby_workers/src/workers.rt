@@ -15,7 +15,7 @@ use std::alloc::{AllocError, Global};
 use std::net::Net;
 use std::sync::Wait;
 use std::sync::atomic::AtomicBool;
-use worker_loop::{Inboxes, Wakers, WorkerListener};
+use worker_loop::{Inboxes, Reserve, Wakers, WorkerListener};
 
 /// How the workers of a server are reached, whether they are to end, and from where fronts connect.
 #[derive(Drop)]
@@ -26,6 +26,8 @@ pub struct Handles {
     pub wakers: Wakers,
     /// Whether all of them are to end.
     pub stop: AtomicBool,
+    /// What they keep for log outs where memory is short.
+    pub reserve: Reserve,
     /// From where fronts connect.
     pub proxies: Proxies,
     /// Whether they tell the gate what they make.
@@ -33,15 +35,17 @@ pub struct Handles {
 }
 
 impl Handles {
-    /// No worker yet.
-    pub fn new(alloc: Global, proxies: Proxies) -> Handles {
-        Handles {
+    /// No worker yet. Fails only where memory is refused.
+    pub fn new(alloc: Global, proxies: Proxies) -> Result<Handles, AllocError> {
+        let reserve = Reserve::new(alloc)?;
+        Ok(Handles {
             inboxes: Inboxes::new(alloc),
             wakers: Wakers::new(alloc),
             stop: AtomicBool::new(false),
+            reserve,
             proxies,
             keep_events: false,
-        }
+        })
     }
 
     /// The next worker gets its inbox, and is woken by this waker. Fails only where memory is refused.

@@ -1,5 +1,5 @@
 -- The lines of an event, of the lines of its steps.
-use Rattle.std.proofs.Common.{◌≡◌, ℕ, List, [], ◌∷◌, ◌++◌, length, take, refl, sym, ap, ◌∙◌, subst, append-nil, append_assoc}
+use Rattle.std.proofs.Common.{◌≡◌, ℕ, List, [], ◌∷◌, ◌++◌, length, take, refl, sym, ap, ◌∙◌, subst, append-nil, append_assoc, ◌+◌, ◌<◌, arith, vec_capacity, Vec}
 use Rattle.std.proofs.Common.{inl, inr}
 use Rattle.std.specs.Prelude.{Bool, Result, Ok, Err, OnOk, IfErr, ◌⊎◌}
 use Rattle.std.specs.List.{AllByRecursion}
@@ -12,7 +12,7 @@ use Rattle.reply_printer.specs.Fronts.{Keeps}
 use Rattle.reply_printer.proofs.Kept.{front_all}
 use Rattle.request_printer.specs.declared.error.PrintError.{PrintError}
 use Rattle.request_printer.specs.declared.error.PrintError.TheVariants as error
-use Rattle.request_printer.specs.Faults.{IsUnread, Printed, Refuses}
+use Rattle.request_printer.specs.Faults.{IsUnread, Printed, Refuses, WantsRoom}
 use Rattle.lobby_model.specs.declared.event.Event.TheVariants as event
 use Rattle.lobby_model.specs.declared.event.MadeEvent.{MadeEvent}
 use Rattle.record_lines.specs.declared.fault.RecordFault.{RecordFault}
@@ -21,7 +21,9 @@ use Rattle.record_lines.specs.declared.masks.Masks.{Masks}
 use Rattle.record_lines.specs.Steps.{Step, Open, Send, Take, Read, Shut}
 use Rattle.record_lines.specs.Printed.{NumberRefused, Prints, printed}
 use Rattle.record_lines.specs.Masks.{masked, unread_text}
-use Rattle.record_lines.specs.Entries.{AreStepsOf, IsTextOf, PrintsSaid, Records, TextRefused, fault_for}
+use Rattle.record_lines.specs.Entries.{AreStepsOf, IsTextOf, PrintsSaid, Records, TextRefused, TextWants, fault_for}
+use Rattle.request_printer.proofs.Gaps.{wordless}
+use Rattle.record_lines.proofs.PlainLines.{read_plain, unread_plain}
 use Rattle.record_lines.proofs.StepLines.{more_lines}
 use Rattle.record_lines.proofs.Shorter.{none_fits}
 use Rattle.record_lines.proofs.Unread.{unread_reads}
@@ -35,6 +37,7 @@ unread_text_of r f old new is none put = record {
   whole = put ∙ ap (λ (t : List ℕ). t ++ (id_text r.id ++ (unread_text f ++ 10 ∷ []))) none
       ∙ sym (append_assoc (id_text r.id) (unread_text f) (10 ∷ []));
   is_line = inr (f, is, refl);
+  plain = λ id kinds. unread_plain r.id f id;
   reads = λ id kinds. unread_reads r f is id;
 }
 
@@ -43,6 +46,8 @@ printed_text_of r old new none print = record {
   line = print.line;
   whole = print.whole ∙ ap (λ (t : List ℕ). t ++ (print.line ++ 10 ∷ [])) none;
   is_line = inl print.writes;
+  plain = λ id kinds. read_plain print.line r (print.reads kinds)
+      (λ unread. wordless print.writes.word r.command unread print.writes.has_word) print.fits;
   reads = λ id kinds. print.reads kinds;
 }
 
@@ -137,6 +142,37 @@ read_refused error.NothingListed r read refused = λ line reads. absurd (refused
 read_refused error.Skipped r read refused = λ line reads. absurd (refused.1 line reads)
 read_refused error.TooLong r read refused = refused.1
 read_refused error.Memory r read refused = tt
+
+-- why memory is refused for the line of a request, in an empty text
+
+pub unread_wants : (r : Request) (f : ReadFault) (old : List ℕ) (room : ℕ) → r.command ≡ command.Unread f → old ≡ []
+    → room < length old + length (id_text r.id ++ (unread_text f ++ 10 ∷ [])) → TextWants r room
+unread_wants r f old room is none lacks =
+    let whole = ap length (append_assoc (id_text r.id) (unread_text f) (10 ∷ [])) in
+    let empty : length old ≡ 0 = ap length none in
+    record {
+      line = id_text r.id ++ unread_text f;
+      is_line = inr (f, is, refl);
+      lacks = omega (arith, whole, empty, lacks);
+    }
+
+line_wants : {Z : Type 0} (r : Request) (text : Vec ℕ Z) → text.items ≡ [] → WantsRoom r text
+    → TextWants r (vec_capacity text)
+line_wants r text none wants =
+    let empty : length text.items ≡ 0 = ap length none in
+    let lacks = wants.lacks in
+    record { line = wants.line; is_line = inl wants.writes; lacks = omega (arith, empty, lacks) }
+
+pub printed_wants : {Z : Type 0} (e : PrintError) (r : Request) (text : Vec ℕ Z) → text.items ≡ []
+    → fault_for e ≡ refused.Memory
+    → ((let answer : Result (Unit {0}) PrintError = Err e in answer ≡ Err error.Memory) → WantsRoom r text)
+    → TextWants r (vec_capacity text)
+printed_wants error.Memory r text none same wants = line_wants r text none (wants refl)
+printed_wants error.Unread r text none same wants = absurd (let n : ⊥ = cc in n)
+printed_wants error.OutOfRange r text none same wants = absurd (let n : ⊥ = cc in n)
+printed_wants error.NothingListed r text none same wants = absurd (let n : ⊥ = cc in n)
+printed_wants error.Skipped r text none same wants = absurd (let n : ⊥ = cc in n)
+printed_wants error.TooLong r text none same wants = absurd (let n : ⊥ = cc in n)
 
 -- an event that is taken back leaves what stood before it
 pub taken_back : (old new : List ℕ) → Keeps old new → take (length old) new ≡ old

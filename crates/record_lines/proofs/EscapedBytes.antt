@@ -1,6 +1,11 @@
 -- Escaped bytes stand for the bytes, and have no LF.
 use Rattle.std.proofs.Common.{◌≡◌, ℕ, ◌+◌, ◌*◌, ◌/◌, ◌%◌, ◌<◌, Bool, true, false, nat_eq, List, [], ◌∷◌}
-use Rattle.std.proofs.Common.{refl, sym, ◌∙◌, subst, arith, eqb-true, eq-eqb}
+use Rattle.std.proofs.Common.{refl, sym, ap, ◌∙◌, subst, arith, eqb-true, eq-eqb, ◌≤◌, ◌++◌, length, get_or, take, drop, suc, append_assoc}
+use Rattle.std.specs.Prelude.{flat_map}
+use Rattle.std.proofs.Math.Seq.{drop-cons}
+use Rattle.std.proofs.lemmas.List.{take-append-drop}
+use Rattle.std.proofs.lemmas.Grind.{flat_map-append}
+use Rattle.reply_printer.proofs.Kept.{lacks_whole}
 use Rattle.std.specs.Char.{digit_char, digit_value}
 use Rattle.std.proofs.lemmas.Bool.{false≢true}
 use Rattle.std.proofs.lemmas.Bool.Decides.{nat_tests}
@@ -82,3 +87,21 @@ pub lacks_feed : (bytes : List ℕ) → has_byte 10 (escaped bytes) ≡ false
 unfolding escaped
 lacks_feed [] = refl
 lacks_feed (b ∷ bytes) = lacks-append 10 (escaped_byte b) (escaped bytes) (byte_printed b).one_line (lacks_feed bytes)
+
+escaped_parts : (bytes : List ℕ) (i : ℕ) → i < length bytes
+    → escaped (take i bytes) ++ (escaped_byte (get_or bytes i 0) ++ escaped (drop (suc i) bytes)) ≡ escaped bytes
+unfolding escaped
+escaped_parts bytes i low =
+    ap (λ t. flat_map escaped_byte (take i bytes) ++ flat_map escaped_byte t) (sym (drop-cons bytes i 0 low))
+    ∙ sym (flat_map-append escaped_byte (take i bytes) (drop i bytes)) ∙ ap (flat_map escaped_byte) (take-append-drop i bytes)
+
+-- what lacks room for a byte lacks it for all
+pub byte_lacks : (old new bytes : List ℕ) (i room least : ℕ) → new ≡ old ++ escaped (take i bytes) → i < length bytes
+    → least ≤ room → room < length new + length (escaped_byte (get_or bytes i 0))
+    → least < length old + length (escaped bytes)
+byte_lacks old new bytes i room least e low more lacks =
+    let here = escaped_byte (get_or bytes i 0) in
+    let behind = escaped (drop (suc i) bytes) in
+    lacks_whole old new here behind (escaped bytes) room least
+    (ap (λ t. t ++ (here ++ behind)) e ∙ append_assoc old (escaped (take i bytes)) (here ++ behind)
+    ∙ ap (λ t. old ++ t) (escaped_parts bytes i low)) more lacks

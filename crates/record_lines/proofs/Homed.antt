@@ -1,6 +1,6 @@
 -- Clients of no worker in particular: nothing that happens looks at whose they are.
 use Rattle.std.proofs.Common.{◌≡◌, ℕ, suc, List, [], ◌∷◌, ◌++◌, refl, sym, ap, ◌∙◌, true, false, length}
-use Rattle.std.specs.Prelude.{Option, Some, None, if◌then◌else◌}
+use Rattle.std.specs.Prelude.{Option, Some, None, if◌then◌else◌, is_some}
 use Rattle.std.specs.Option.{option_map}
 use Rattle.std.specs.Ordering.{nat_cmp}
 use Rattle.std.specs.declared.cmp.Ordering.TheVariants.{Less, Equal, Greater}
@@ -75,6 +75,13 @@ pub name_homed : (m : ByNumber Client) (c : ℕ) → name_of_client (at_number (
 name_homed m c = seen_through name_of_client same m c
   where
     same : (o : Option Client) → name_of_client (option_map at_home o) ≡ name_of_client o
+    same None = refl
+    same (Some x) = refl
+
+pub there_homed : (m : ByNumber Client) (c : ℕ) → is_some (at_number (homed m) c) ≡ is_some (at_number m c)
+there_homed m c = seen_through is_some same m c
+  where
+    same : (o : Option Client) → is_some (option_map at_home o) ≡ is_some o
     same None = refl
     same (Some x) = refl
 

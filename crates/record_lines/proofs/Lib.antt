@@ -5,5 +5,7 @@ pub mod Masked
 pub mod Homed
 pub mod Recorded
 pub mod Shorter
+pub mod PlainLines
 pub mod Entered
+pub mod Replayed
 pub mod Headed

@@ -180,7 +180,7 @@ module _ (s : State) where
       ap (λ me. departs (shown s) me (disconnects c)) (name_homed s.clients c)
       ∙ ap (λ gone. Done (gone ++ disconnects c ∷ [])) (logs_out_same (name_of s c))
 
-  place_same : has_place (shown s) ≡ has_place s
+  pub place_same : has_place (shown s) ≡ has_place s
   place_same = ap (λ n. nat_lt n 10000 && nat_lt s.last_client 18446744073709551615) (length_homed s.clients)
 
   letters_same : (e : Event) → letters_of (outcome (shown s) (here e)) ≡ letters_of (outcome s e)
@@ -255,7 +255,7 @@ module _ (s : State) where
       (λ i. put_to s.settings.outbox_limit (batch_same e d i) (at_number (effect_same sound e i).clients d))
       ∙ put_to_homed s.settings.outbox_limit (batch s e d) (effect s e).clients d
 
-  next_same : Sound s → (e : Event) → next (shown s) (here e) ≡ shown (next s e)
+  pub next_same : Sound s → (e : Event) → next (shown s) (here e) ≡ shown (next s e)
   next_same sound e =
       (λ i. record (effect_same sound e i) {
         clients = map_values (λ c x. with_batch s.settings.outbox_limit (batch_same e c i) x) (effect_same sound e i).clients;

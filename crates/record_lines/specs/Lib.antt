@@ -5,3 +5,4 @@ pub mod Masks
 pub mod Entries
 pub mod Head
 pub mod Played
+pub mod Schedules

@@ -1,5 +1,5 @@
 -- What of a request is not written as it is.
-use Rattle.std.specs.Prelude.{ℕ, Bool, List, [], ◌∷◌, map, codes, is_ok, if◌then◌else◌, Result, Ok, Err}
+use Rattle.std.specs.Prelude.{ℕ, Bool, true, false, not, List, [], ◌∷◌, map, codes, is_ok, if◌then◌else◌, Result, Ok, Err}
 use Rattle.account_book.specs.Account.{Account}
 use Rattle.account_book.specs.Book.{login}
 use Rattle.account_book.specs.declared.error.LoginFault.{LoginFault}
@@ -45,6 +45,12 @@ masked_command accounts private c = c
 
 abbrev pub masked : List Account → Bool → Request → Request
 masked accounts private request = record request { command = masked_command accounts private request.command }
+
+-- the command is of a kind that is not written as it is
+abbrev pub is_other : Bool → Command → Bool
+is_other private (command.Login name word cpu ip lobby authorises) = true
+is_other private (command.SayPrivate user text) = not private
+is_other private c = false
 
 -- the text, behind its id, in place of a line that could not be read, by why it could not
 abbrev pub unread_text : ReadFault → List ℕ

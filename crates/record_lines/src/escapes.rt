@@ -1,9 +1,9 @@
 //! Bytes as a script writes them.
 #![tactic(auto, using(reply_printer::proofs::Kept::front_more, reply_printer::proofs::Kept::front_all))]
 
-ghost use Rattle.std.specs.Prelude.{◌≡◌, ◌<◌, ◌++◌, ◌∷◌, IfOk};
+ghost use Rattle.std.specs.Prelude.{◌≡◌, ◌<◌, ◌≤◌, ◌++◌, ◌∷◌, IfOk, OnErr, vec_capacity};
 ghost use Rattle.std.specs.Char.{digit_char};
-ghost use Rattle.reply_printer.specs.Fronts.{Keeps};
+ghost use Rattle.reply_printer.specs.Fronts.{Keeps, LacksRoom};
 ghost use Rattle.record_lines.specs.Printed.{escaped, escaped_byte, hexadecimal_digits};
 
 use std::alloc::AllocError;
@@ -13,7 +13,9 @@ use std::alloc::AllocError;
 #[tactic(auto, using(reply_printer::proofs::Kept::front_more, reply_printer::proofs::Kept::front_all), unfolding(crate::specs::Printed::escaped))]
 pub(crate) fn put_escaped(out: &mut Vec<u8>, bytes: &[u8]) -> Result<(), AllocError>
     ensures ok { IfOk result (λ _. out.new.items ≡ out.old.items ++ escaped bytes.now) }
+    ensures wanted { OnErr result (LacksRoom out.old (escaped bytes.now)) }
     ensures kept { Keeps out.old.items out.new.items }
+    ensures room { vec_capacity out.old ≤ vec_capacity out.new }
 {
     for byte in bytes {
         put_byte(out, *byte)?;
@@ -23,7 +25,9 @@ pub(crate) fn put_escaped(out: &mut Vec<u8>, bytes: &[u8]) -> Result<(), AllocEr
 
 fn put_byte(out: &mut Vec<u8>, byte: u8) -> Result<(), AllocError>
     ensures ok { IfOk result (λ _. out.new.items ≡ out.old.items ++ escaped_byte byte) }
+    ensures wanted { OnErr result (LacksRoom out.old (escaped_byte byte)) }
     ensures kept { Keeps out.old.items out.new.items }
+    ensures room { vec_capacity out.old ≤ vec_capacity out.new }
 {
     match byte {
         b'\\' => out.extend_from_slice(b"\\\\"),
@@ -44,7 +48,9 @@ fn put_byte(out: &mut Vec<u8>, byte: u8) -> Result<(), AllocError>
 /// Appends a byte as two hexadecimal digits.
 pub(crate) fn put_hexadecimal(out: &mut Vec<u8>, byte: u8) -> Result<(), AllocError>
     ensures ok { IfOk result (λ _. out.new.items ≡ out.old.items ++ hexadecimal_digits byte) }
+    ensures wanted { OnErr result (LacksRoom out.old (hexadecimal_digits byte)) }
     ensures kept { Keeps out.old.items out.new.items }
+    ensures room { vec_capacity out.old ≤ vec_capacity out.new }
 {
     out.extend_from_slice(&[digit(byte / 16), digit(byte % 16)])
 }

@@ -15,6 +15,7 @@ ghost use Rattle.lobby_model.specs.State.{empty_lobby};
 ghost use Rattle.lobby_model.specs.History.{put_in, taken_in};
 ghost use Rattle.record_lines.specs.Masks.{hidden, all_hidden, hidden_answer, word_for};
 ghost use Rattle.record_lines.specs.Played.{played_from};
+ghost use Rattle.record_lines.specs.Schedules.{IsReplay};
 ghost use Rattle.record_lines.specs.Masks.{unread_text};
 
 /// A login with the word that a record has for its own is answered by the accounts of the record as it was.
@@ -31,6 +32,21 @@ pub fn a_record_puts_the_same_bytes()
         ≡ put_in (empty_lobby settings accounts) history c }
     ensures taken { (settings : Configuration) (accounts : List Account) (history : List Event) (c : ℕ)
         → taken_in (empty_lobby settings (all_hidden accounts)) (played_from (empty_lobby settings accounts) history) c
+        ≡ taken_in (empty_lobby settings accounts) history c }
+{}
+
+/// The schedule of a record's steps gives the history that the record was made of, as it is played. So it puts the same
+/// bytes to each client, and its reads take the same.
+pub fn a_record_is_played_as_it_was()
+    ensures events { (settings : Configuration) (accounts : List Account) (history events : List Event)
+        → IsReplay settings accounts history events → events ≡ played_from (empty_lobby settings accounts) history }
+    ensures put { (settings : Configuration) (accounts : List Account) (history events : List Event) (c : ℕ)
+        → IsReplay settings accounts history events
+        → put_in (empty_lobby settings (all_hidden accounts)) events c
+        ≡ put_in (empty_lobby settings accounts) history c }
+    ensures taken { (settings : Configuration) (accounts : List Account) (history events : List Event) (c : ℕ)
+        → IsReplay settings accounts history events
+        → taken_in (empty_lobby settings (all_hidden accounts)) events c
         ≡ taken_in (empty_lobby settings accounts) history c }
 {}
 

@@ -20,7 +20,7 @@ pub use entry::put_entry;
 pub use fault::RecordFault;
 pub use head::{put_account, put_settings};
 pub use laws::{
-    a_record_puts_the_same_bytes, each_login_is_answered_as_it_was,
+    a_record_is_played_as_it_was, a_record_puts_the_same_bytes, each_login_is_answered_as_it_was,
     what_stands_for_unread_lines_is_unread,
 };
 pub use masks::{FAILS, Masks, PASSES};

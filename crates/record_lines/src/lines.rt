@@ -2,12 +2,12 @@
 #![tactic(auto, using(reply_printer::proofs::Kept::front_more, reply_printer::proofs::Kept::front_all))]
 
 ghost use Rattle.std.specs.Prelude.{◌≡◌, ◌<◌, ◌≤◌, ◌+◌, ◌^◌, [], ◌∷◌, ◌++◌, decimal, IfOk, OnOk, IfErr};
-ghost use Rattle.std.specs.Prelude.{length, slice_index};
+ghost use Rattle.std.specs.Prelude.{Err, OnErr, length, slice_index, vec_capacity};
 ghost use Rattle.arrayvec.specs.ArrayVec.{array_vec_len};
 ghost use Rattle.proxy_line.specs.Words.{dotted};
-ghost use Rattle.reply_printer.specs.Fronts.{Keeps};
+ghost use Rattle.reply_printer.specs.Fronts.{Keeps, LacksRoom};
 ghost use Rattle.record_lines.specs.Steps.{Open, Send, Take, Read, Shut, step_verb};
-ghost use Rattle.record_lines.specs.Printed.{AreOctets, NumberRefused, Prints, StepRefused, escaped, front};
+ghost use Rattle.record_lines.specs.Printed.{AreOctets, NumberRefused, Prints, StepRefused, escaped, front, printed};
 
 use crate::escapes::put_escaped;
 use crate::fault::RecordFault;
@@ -29,7 +29,9 @@ pub(crate) fn put_open(
 ) -> Result<(), RecordFault>
     ensures ok { OnOk result (Prints place (Open label ip) out.old.items out.new.items) }
     ensures refused { IfErr result (λ e. StepRefused e (Open label ip)) }
+    ensures wanted { result ≡ Err RecordFault.Memory → LacksRoom out.old (printed place (Open label ip)) }
     ensures kept { Keeps out.old.items out.new.items }
+    ensures room { vec_capacity out.old ≤ vec_capacity out.new }
 {
     put_front(out, place, b"open", label)?;
     put_address(out, ip)?;
@@ -45,7 +47,9 @@ pub(crate) fn put_send(
 ) -> Result<(), RecordFault>
     ensures ok { OnOk result (Prints place (Send label bytes.now) out.old.items out.new.items) }
     ensures refused { IfErr result (λ e. StepRefused e (Send label bytes.now)) }
+    ensures wanted { result ≡ Err RecordFault.Memory → LacksRoom out.old (printed place (Send label bytes.now)) }
     ensures kept { Keeps out.old.items out.new.items }
+    ensures room { vec_capacity out.old ≤ vec_capacity out.new }
 {
     put_front(out, place, b"send", label)?;
     put_bytes(out, bytes)?;
@@ -56,7 +60,9 @@ pub(crate) fn put_send(
 pub(crate) fn put_take(out: &mut Vec<u8>, place: u64, label: u64) -> Result<(), RecordFault>
     ensures ok { OnOk result (Prints place (Take label) out.old.items out.new.items) }
     ensures refused { IfErr result (λ e. StepRefused e (Take label)) }
+    ensures wanted { result ≡ Err RecordFault.Memory → LacksRoom out.old (printed place (Take label)) }
     ensures kept { Keeps out.old.items out.new.items }
+    ensures room { vec_capacity out.old ≤ vec_capacity out.new }
 {
     put_front(out, place, b"take", label)?;
     put_end(out)?;
@@ -71,7 +77,9 @@ pub(crate) fn put_read(
 ) -> Result<(), RecordFault>
     ensures ok { OnOk result (Prints place (Read label count) out.old.items out.new.items) }
     ensures refused { IfErr result (λ e. StepRefused e (Read label count)) }
+    ensures wanted { result ≡ Err RecordFault.Memory → LacksRoom out.old (printed place (Read label count)) }
     ensures kept { Keeps out.old.items out.new.items }
+    ensures room { vec_capacity out.old ≤ vec_capacity out.new }
 {
     let line = read_line(place, small(label)?, small(count)?);
     out.extend_from_slice(&line)?;
@@ -81,7 +89,9 @@ pub(crate) fn put_read(
 pub(crate) fn put_shut(out: &mut Vec<u8>, place: u64, label: u64) -> Result<(), RecordFault>
     ensures ok { OnOk result (Prints place (Shut label) out.old.items out.new.items) }
     ensures refused { IfErr result (λ e. StepRefused e (Shut label)) }
+    ensures wanted { result ≡ Err RecordFault.Memory → LacksRoom out.old (printed place (Shut label)) }
     ensures kept { Keeps out.old.items out.new.items }
+    ensures room { vec_capacity out.old ≤ vec_capacity out.new }
 {
     put_front(out, place, b"shut", label)?;
     put_end(out)?;
@@ -93,7 +103,9 @@ fn put_front(out: &mut Vec<u8>, place: u64, verb: &[u8; 4], label: u64) -> Resul
     ensures ok { OnOk result (out.new.items ≡ out.old.items ++ front place verb.now label) }
     ensures small { OnOk result (label < 2 ^ 32) }
     ensures refused { IfErr result (λ e. NumberRefused e label) }
+    ensures wanted { result ≡ Err RecordFault.Memory → LacksRoom out.old (front place verb.now label) }
     ensures kept { Keeps out.old.items out.new.items }
+    ensures room { vec_capacity out.old ≤ vec_capacity out.new }
 {
     let line = front_of(place, verb, small(label)?);
     out.extend_from_slice(&line)?;
@@ -146,6 +158,7 @@ fn push_short(line: &mut ArrayVec<u8, SHORT>, bytes: &[u8])
 fn small(number: u64) -> Result<u32, RecordFault>
     ensures ok { IfOk result (λ n. (n ≡ number) × (n < 2 ^ 32)) }
     ensures refused { IfErr result (λ e. NumberRefused e number) }
+    ensures number { IfErr result (λ e. e ≡ RecordFault.Number) }
 {
     match u32::try_from(number) {
         Ok(number) => Ok(number),
@@ -155,7 +168,9 @@ fn small(number: u64) -> Result<u32, RecordFault>
 
 fn put_bytes(out: &mut Vec<u8>, bytes: &[u8]) -> Result<(), AllocError>
     ensures ok { IfOk result (λ _. out.new.items ≡ out.old.items ++ (32 ∷ escaped bytes.now)) }
+    ensures wanted { OnErr result (LacksRoom out.old (32 ∷ escaped bytes.now)) }
     ensures kept { Keeps out.old.items out.new.items }
+    ensures room { vec_capacity out.old ≤ vec_capacity out.new }
 {
     out.push(b' ')?;
     put_escaped(out, bytes)
@@ -164,8 +179,11 @@ fn put_bytes(out: &mut Vec<u8>, bytes: &[u8]) -> Result<(), AllocError>
 fn put_address(out: &mut Vec<u8>, ip: [u8; 4]) -> Result<(), AllocError>
     ensures ok { IfOk result (λ _. out.new.items
         ≡ out.old.items ++ (32 ∷ dotted (slice_index ip 0) (slice_index ip 1) (slice_index ip 2) (slice_index ip 3))) }
+    ensures wanted { OnErr result (LacksRoom out.old
+        (32 ∷ dotted (slice_index ip 0) (slice_index ip 1) (slice_index ip 2) (slice_index ip 3))) }
     ensures octets { OnOk result (AreOctets ip) }
     ensures kept { Keeps out.old.items out.new.items }
+    ensures room { vec_capacity out.old ≤ vec_capacity out.new }
 {
     put_octet(out, b' ', ip[0])?;
     put_octet(out, b'.', ip[1])?;
@@ -176,8 +194,10 @@ fn put_address(out: &mut Vec<u8>, ip: [u8; 4]) -> Result<(), AllocError>
 
 fn put_octet(out: &mut Vec<u8>, separator: u8, octet: u8) -> Result<(), AllocError>
     ensures ok { IfOk result (λ _. out.new.items ≡ out.old.items ++ (separator ∷ decimal octet)) }
+    ensures wanted { OnErr result (LacksRoom out.old (separator ∷ decimal octet)) }
     ensures small { octet < 2 ^ 8 }
     ensures kept { Keeps out.old.items out.new.items }
+    ensures room { vec_capacity out.old ≤ vec_capacity out.new }
 {
     let mut digits = Buffer::new();
     put_behind(out, separator, digits.format(octet).as_bytes())

@@ -1,8 +1,8 @@
 //! What of a request is not written as it is.
 
-ghost use Rattle.std.specs.Prelude.{◌≡◌, IfOk};
+ghost use Rattle.std.specs.Prelude.{◌≡◌, IfOk, OnErr, IsTrue};
 ghost use Rattle.std.specs.Option.{unwrap_or};
-ghost use Rattle.record_lines.specs.Masks.{masked, stars, unread_text, word_for};
+ghost use Rattle.record_lines.specs.Masks.{is_other, masked, stars, unread_text, word_for};
 
 use account_book::AccountBook;
 use command_grammar::{Command, ReadFault, Request};
@@ -26,14 +26,15 @@ pub struct Masks {
 }
 
 impl Masks {
-    /// What is written in place of a request, where it is not written as it is.
+    /// What is written in place of a request, where it is not written as it is. Takes no memory for any other.
     pub(crate) fn in_place_of(
         &self,
         alloc: Global,
         request: &Request,
     ) -> Result<Option<Request>, AllocError>
-        ensures { IfOk result (λ other.
+        ensures other { IfOk result (λ other.
             unwrap_or other request.now ≡ masked self.now.accounts self.now.private request.now) }
+        ensures wanted { OnErr result (IsTrue (is_other self.now.private request.now.command)) }
     {
         let command = match &request.command {
             Command::Login {

@@ -1,12 +1,12 @@
 //! The line of a request.
 #![tactic(auto, using(reply_printer::proofs::Kept::front_more, reply_printer::proofs::Kept::front_all))]
 
-ghost use Rattle.std.specs.Prelude.{◌≡◌, ◌⊎◌, ◌++◌, [], ◌∷◌, IfErr, OnOk};
+ghost use Rattle.std.specs.Prelude.{◌≡◌, ◌≤◌, ◌⊎◌, ◌++◌, [], ◌∷◌, Err, IfErr, IsTrue, OnErr, OnOk, vec_capacity};
 ghost use Rattle.reply_kinds.specs.Replies.{id_text};
-ghost use Rattle.record_lines.specs.Entries.{IsTextOf, PrintsSaid, TextRefused, fault_for};
+ghost use Rattle.record_lines.specs.Entries.{IsTextOf, PrintsSaid, SaidWants, TextRefused, TextWants, fault_for};
 ghost use Rattle.record_lines.specs.Printed.{NumberRefused};
-ghost use Rattle.reply_printer.specs.Fronts.{Keeps};
-ghost use Rattle.record_lines.specs.Masks.{masked, unread_text};
+ghost use Rattle.reply_printer.specs.Fronts.{Keeps, LacksRoom};
+ghost use Rattle.record_lines.specs.Masks.{is_other, masked, unread_text};
 
 use crate::fault::RecordFault;
 use crate::lines::{put_send, put_take};
@@ -30,7 +30,10 @@ pub(crate) fn put_said(
         out.old.items out.new.items) }
     ensures refused { IfErr result (λ e.
         NumberRefused e client ⊎ TextRefused e (masked masks.now.accounts masks.now.private request.now)) }
+    ensures wanted { result ≡ Err RecordFault.Memory
+        → SaidWants masks.now.accounts masks.now.private place client request.now out.old text.old }
     ensures kept { Keeps out.old.items out.new.items }
+    ensures room { vec_capacity out.old ≤ vec_capacity out.new }
 {
     put_masked(alloc, text, masks, request)?;
     put_send(out, place, client, text)?;
@@ -47,6 +50,8 @@ fn put_masked(
 ) -> Result<(), RecordFault>
     ensures text { OnOk result (IsTextOf (masked masks.now.accounts masks.now.private request.now) text.new.items) }
     ensures refused { IfErr result (λ e. TextRefused e (masked masks.now.accounts masks.now.private request.now)) }
+    ensures wanted { result ≡ Err RecordFault.Memory → IsTrue (is_other masks.now.private request.now.command)
+        ⊎ TextWants (masked masks.now.accounts masks.now.private request.now) (vec_capacity text.old) }
 {
     let other = masks.in_place_of(alloc, request)?;
     text.clear();
@@ -65,6 +70,7 @@ fn put_request(text: &mut Vec<u8>, request: &Request) -> Result<(), RecordFault>
     requires { text.old.items ≡ [] }
     ensures text { OnOk result (IsTextOf request.now text.new.items) }
     ensures refused { IfErr result (λ e. TextRefused e request.now) }
+    ensures wanted { result ≡ Err RecordFault.Memory → TextWants request.now (vec_capacity text.old) }
 {
     if let Command::Unread(fault) = &request.command {
         put_unread(text, request.id, *fault)?;
@@ -91,7 +97,8 @@ fn fault_of(error: PrintError) -> RecordFault
 }
 
 fn put_unread(text: &mut Vec<u8>, id: Option<u32>, fault: ReadFault) -> Result<(), AllocError>
-    ensures { OnOk result (text.new.items ≡ text.old.items ++ (id_text id ++ (unread_text fault ++ 10 ∷ []))) }
+    ensures ok { OnOk result (text.new.items ≡ text.old.items ++ (id_text id ++ (unread_text fault ++ 10 ∷ []))) }
+    ensures wanted { OnErr result (LacksRoom text.old (id_text id ++ (unread_text fault ++ 10 ∷ []))) }
 {
     put_id(text, id)?;
     text.extend_from_slice(unread_text(fault))?;

@@ -1,8 +1,8 @@
 //! The arguments: how a field of each type is printed.
 #![tactic(auto, using(crate::proofs::Kept::front_more, crate::proofs::Kept::front_all))]
 
-ghost use Rattle.std.specs.Prelude.{◌≡◌, ◌++◌, IfOk};
-ghost use Rattle.reply_printer.specs.Fronts.{Keeps};
+ghost use Rattle.std.specs.Prelude.{◌≡◌, ◌++◌, ◌≤◌, IfOk, OnErr, vec_capacity};
+ghost use Rattle.reply_printer.specs.Fronts.{Keeps, LacksRoom};
 ghost use Rattle.reply_kinds.specs.Kinds as kinds;
 ghost use Rattle.reply_kinds.specs.Kinds.{Kind, Value, printed};
 ghost use Rattle.reply_kinds.specs.Replies.{battle_number, port_number, status_word};
@@ -25,7 +25,9 @@ pub(crate) trait Printed {
 
     fn put(&self, out: &mut Vec<u8>) -> Result<(), AllocError>
         ensures ok { IfOk result (λ _. out.new.items ≡ out.old.items ++ printed kind (value self.now)) }
-        ensures kept { Keeps out.old.items out.new.items };
+        ensures wanted { OnErr result (LacksRoom out.old (printed kind (value self.now))) }
+        ensures kept { Keeps out.old.items out.new.items }
+        ensures room { vec_capacity out.old ≤ vec_capacity out.new };
 }
 
 impl<'a, A: Printed> Printed for &'a A {

@@ -1,9 +1,9 @@
 //! What BATTLEOPENED tells of a battle behind its number.
 #![tactic(auto, using(crate::proofs::Kept::front_more, crate::proofs::Kept::front_all))]
 
-ghost use Rattle.std.specs.Prelude.{◌≡◌, [], ◌∷◌, ◌++◌, IfOk, decimal, if◌then◌else◌};
+ghost use Rattle.std.specs.Prelude.{◌≡◌, [], ◌∷◌, ◌++◌, ◌≤◌, IfOk, OnErr, decimal, if◌then◌else◌, vec_capacity};
 ghost use Rattle.std.specs.Fmt.{signed_decimal};
-ghost use Rattle.reply_printer.specs.Fronts.{Keeps};
+ghost use Rattle.reply_printer.specs.Fronts.{Keeps, LacksRoom};
 ghost use Rattle.reply_kinds.specs.Kinds.{all_printed};
 ghost use Rattle.reply_kinds.specs.Opened.{opened_kinds, opened_values};
 
@@ -16,7 +16,9 @@ use std::alloc::AllocError;
 pub(crate) fn put_opened(out: &mut Vec<u8>, opened: &OpenedBattle) -> Result<(), AllocError>
     ensures ok { IfOk result (λ _. out.new.items
         ≡ out.old.items ++ all_printed opened_kinds (opened_values opened.now)) }
+    ensures wanted { OnErr result (LacksRoom out.old (all_printed opened_kinds (opened_values opened.now))) }
     ensures kept { Keeps out.old.items out.new.items }
+    ensures room { vec_capacity out.old ≤ vec_capacity out.new }
 {
     put_host(out, opened)?;
     put_entry(out, opened)?;
@@ -28,7 +30,11 @@ fn put_host(out: &mut Vec<u8>, opened: &OpenedBattle) -> Result<(), AllocError>
     ensures ok { IfOk result (λ _. out.new.items
         ≡ out.old.items ++ ((32 ∷ decimal opened.now.battle_type) ++ ((32 ∷ decimal opened.now.nat_type)
         ++ ((32 ∷ opened.now.founder) ++ ((32 ∷ opened.now.ip) ++ (32 ∷ decimal opened.now.port)))))) }
+    ensures wanted { OnErr result (LacksRoom out.old
+        ((32 ∷ decimal opened.now.battle_type) ++ ((32 ∷ decimal opened.now.nat_type)
+        ++ ((32 ∷ opened.now.founder) ++ ((32 ∷ opened.now.ip) ++ (32 ∷ decimal opened.now.port)))))) }
     ensures kept { Keeps out.old.items out.new.items }
+    ensures room { vec_capacity out.old ≤ vec_capacity out.new }
 {
     put_number(out, u32::from(opened.battle_type))?;
     put_number(out, u32::from(opened.nat_type))?;
@@ -43,7 +49,11 @@ fn put_entry(out: &mut Vec<u8>, opened: &OpenedBattle) -> Result<(), AllocError>
         ≡ out.old.items ++ ((32 ∷ decimal opened.now.max_players)
         ++ ((32 ∷ (if opened.now.passworded then 49 else 48) ∷ [])
         ++ ((32 ∷ signed_decimal opened.now.rank) ++ (32 ∷ signed_decimal opened.now.map_hash))))) }
+    ensures wanted { OnErr result (LacksRoom out.old
+        ((32 ∷ decimal opened.now.max_players) ++ ((32 ∷ (if opened.now.passworded then 49 else 48) ∷ [])
+        ++ ((32 ∷ signed_decimal opened.now.rank) ++ (32 ∷ signed_decimal opened.now.map_hash))))) }
     ensures kept { Keeps out.old.items out.new.items }
+    ensures room { vec_capacity out.old ≤ vec_capacity out.new }
 {
     put_number(out, u32::from(opened.max_players))?;
     put_flag(out, opened.passworded)?;
@@ -56,7 +66,11 @@ fn put_titles(out: &mut Vec<u8>, opened: &OpenedBattle) -> Result<(), AllocError
     ensures ok { IfOk result (λ _. out.new.items
         ≡ out.old.items ++ ((32 ∷ opened.now.engine_name) ++ ((9 ∷ opened.now.engine_version)
         ++ ((9 ∷ opened.now.map) ++ ((9 ∷ opened.now.title) ++ (9 ∷ opened.now.game_name)))))) }
+    ensures wanted { OnErr result (LacksRoom out.old
+        ((32 ∷ opened.now.engine_name) ++ ((9 ∷ opened.now.engine_version)
+        ++ ((9 ∷ opened.now.map) ++ ((9 ∷ opened.now.title) ++ (9 ∷ opened.now.game_name)))))) }
     ensures kept { Keeps out.old.items out.new.items }
+    ensures room { vec_capacity out.old ≤ vec_capacity out.new }
 {
     put_sentence(out, &opened.engine_name)?;
     put_next_sentence(out, &opened.engine_version)?;

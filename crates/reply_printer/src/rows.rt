@@ -1,8 +1,8 @@
 //! A row of arguments, one behind another: no argument, or one in front of a row. So what is proved
 //! of one argument is proved of each row.
 
-ghost use Rattle.std.specs.Prelude.{◌≡◌, List, [], ◌∷◌, ◌++◌, IfOk};
-ghost use Rattle.reply_printer.specs.Fronts.{Keeps};
+ghost use Rattle.std.specs.Prelude.{◌≡◌, List, [], ◌∷◌, ◌++◌, ◌≤◌, IfOk, OnErr, vec_capacity};
+ghost use Rattle.reply_printer.specs.Fronts.{Keeps, LacksRoom};
 ghost use Rattle.reply_kinds.specs.Kinds.{Kind, Values, all_printed};
 ghost use Rattle.reply_kinds.specs.Opened.{opened_kinds, opened_values};
 
@@ -19,7 +19,9 @@ pub(crate) trait PrintedRow {
 
     fn put(&self, out: &mut Vec<u8>) -> Result<(), AllocError>
         ensures ok { IfOk result (λ _. out.new.items ≡ out.old.items ++ all_printed kinds (values self.now)) }
-        ensures kept { Keeps out.old.items out.new.items };
+        ensures wanted { OnErr result (LacksRoom out.old (all_printed kinds (values self.now))) }
+        ensures kept { Keeps out.old.items out.new.items }
+        ensures room { vec_capacity out.old ≤ vec_capacity out.new };
 }
 
 impl PrintedRow for () {

@@ -1,7 +1,7 @@
 -- What printing tells of a request.
 use Rattle.std.proofs.Common.{◌≡◌, ℕ, ◌≤◌, List, [], ◌∷◌, ◌++◌, length, refl, sym, subst, ◌∙◌, Bool, true, false, cond}
 use Rattle.std.proofs.Common.{arith}
-use Rattle.std.specs.Prelude.{OnOk, Some, None, Result, Ok, Err}
+use Rattle.std.specs.Prelude.{OnOk, Some, None, Result, Ok, Err, Vec}
 use Rattle.command_grammar.specs.declared.command.Request.{Request}
 use Rattle.command_grammar.specs.Table.{arguments_of}
 use Rattle.command_grammar.specs.Reads.{Reads}
@@ -9,7 +9,8 @@ use Rattle.request_printer.specs.declared.error.PrintError.{PrintError}
 use Rattle.request_printer.specs.declared.error.PrintError.TheVariants.{Unread, OutOfRange, NothingListed, Skipped}
 use Rattle.request_printer.specs.declared.error.PrintError.TheVariants.{TooLong, Memory}
 use Rattle.request_printer.specs.Faults.{in_range, all_listed, has_gap, is_id, fault_of, line_limit, LineRefused}
-use Rattle.request_printer.specs.Faults.{Printed, Refuses}
+use Rattle.reply_printer.specs.Fronts.{LacksRoom}
+use Rattle.request_printer.specs.Faults.{Printed, Refuses, WantsRoom}
 use Rattle.request_printer.specs.Writing.{HasWord, Writes, line_under}
 use Rattle.request_printer.proofs.Gaps.{no_fault, no_shorter, wordless}
 use Rattle.request_printer.proofs.Lines.{request_reads_back}
@@ -71,6 +72,16 @@ line_refused Unread r word has fine h = absurd h
 line_refused OutOfRange r word has fine h = absurd h
 line_refused NothingListed r word has fine h = absurd h
 line_refused Skipped r word has fine h = absurd h
+
+-- no fault of a request is that of memory
+pub not_memory : (e : PrintError) (r : Request) → fault_of r ≡ Some e → e ≡ Memory → ⊥
+not_memory e r h is =
+    let told : Refuses Memory r = refused Memory r (subst (λ f. fault_of r ≡ Some f) is h) in
+    let both : None ≡ Some e = sym told.0 ∙ h in cc
+
+pub wants_room : {Z : Type 0} (r : Request) (word : List ℕ) (out : Vec ℕ Z) → HasWord r.command word
+    → LacksRoom out (line_under r word ++ 10 ∷ []) → WantsRoom r out
+wants_room r word out has lacks = record { line = line_under r word; writes = written_so r word has; lacks = lacks }
 
 pub on_ok : {A E : Type 0} {P Q R : Type 0} (r : Result A E) → (P → Q → R) → OnOk r P → OnOk r Q → OnOk r R
 on_ok (Ok x) f p q = f p q

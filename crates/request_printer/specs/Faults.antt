@@ -1,6 +1,6 @@
 -- What keeps a request from being printed.
 use Rattle.std.specs.Prelude.{◌≡◌, ℕ, ◌<◌, ◌≤◌, Bool, true, false, not, ◌&&◌, ◌||◌, nat_le, if◌then◌else◌, is_some}
-use Rattle.std.specs.Prelude.{List, [], ◌∷◌, ◌++◌, length, Option, Some, None, IsTrue}
+use Rattle.std.specs.Prelude.{List, [], ◌∷◌, ◌++◌, length, Option, Some, None, IsTrue, Vec}
 use Rattle.line_words.specs.Kinds.{is_wide}
 use Rattle.command_grammar.specs.declared.command.Command.{Command}
 use Rattle.command_grammar.specs.declared.command.Command.TheVariants as command
@@ -11,6 +11,7 @@ use Rattle.command_grammar.specs.Table.{Kind, OptionalWord, Natural, Wide, Optio
 use Rattle.command_grammar.specs.Table.{Value, Values, arguments_of}
 use Rattle.command_grammar.specs.Reads.{id_limit, Reads}
 pub use Rattle.command_grammar.specs.Reads.{line_limit}
+use Rattle.reply_printer.specs.Fronts.{LacksRoom}
 use Rattle.request_printer.specs.declared.error.PrintError.{PrintError}
 use Rattle.request_printer.specs.declared.error.PrintError.TheVariants.{Unread, OutOfRange, NothingListed, Skipped}
 use Rattle.request_printer.specs.declared.error.PrintError.TheVariants.{TooLong, Memory}
@@ -86,6 +87,12 @@ abbrev pub LineRefused : PrintError → List ℕ → Type 0
 LineRefused Memory line = Unit {0}
 LineRefused TooLong line = line_limit < length line
 LineRefused e line = ⊥
+
+-- there is no room for the line of the request, with its LF
+pub record WantsRoom {Z : Type 0} (r : Request) (out : Vec ℕ Z) : Type 0 where
+  pub line : List ℕ
+  pub writes : Writes r line
+  pub lacks : LacksRoom out (line ++ 10 ∷ [])
 
 -- what an error says of the request
 abbrev pub Refuses : PrintError → Request → Type 0

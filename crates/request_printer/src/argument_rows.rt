@@ -2,9 +2,9 @@
 //! of one argument is proved of each row.
 #![tactic(auto, using(reply_printer::proofs::Kept::front_more, reply_printer::proofs::Kept::front_all))]
 
-ghost use Rattle.std.specs.Prelude.{◌≡◌, List, [], ◌∷◌, ◌++◌, IfOk, true};
+ghost use Rattle.std.specs.Prelude.{◌≡◌, List, [], ◌∷◌, ◌++◌, ◌≤◌, IfOk, OnErr, true, vec_capacity};
 ghost use Rattle.command_grammar.specs.Table.{Kind, Values};
-ghost use Rattle.reply_printer.specs.Fronts.{Keeps};
+ghost use Rattle.reply_printer.specs.Fronts.{Keeps, LacksRoom};
 ghost use Rattle.request_printer.specs.Faults.{all_absent, all_listed, has_gap, in_range};
 ghost use Rattle.request_printer.specs.Writing.{all_written};
 
@@ -20,7 +20,9 @@ pub(crate) trait WrittenRow {
     /// Appends the arguments, the first sentence behind this separator.
     fn put(&self, out: &mut Vec<u8>, separator: u8) -> Result<(), AllocError>
         ensures ok { IfOk result (λ _. out.new.items ≡ out.old.items ++ all_written separator kinds (values self.now)) }
-        ensures kept { Keeps out.old.items out.new.items };
+        ensures wanted { OnErr result (LacksRoom out.old (all_written separator kinds (values self.now))) }
+        ensures kept { Keeps out.old.items out.new.items }
+        ensures room { vec_capacity out.old ≤ vec_capacity out.new };
 
     /// Each number is in the range of its argument.
     fn is_in_range(&self) -> bool

@@ -1,10 +1,10 @@
 //! The arguments: how a field of each kind is printed.
 #![tactic(auto, using(reply_printer::proofs::Kept::front_more, reply_printer::proofs::Kept::front_all))]
 
-ghost use Rattle.std.specs.Prelude.{◌≡◌, [], ◌∷◌, ◌++◌, IfOk, true};
+ghost use Rattle.std.specs.Prelude.{◌≡◌, [], ◌∷◌, ◌++◌, ◌≤◌, IfOk, OnErr, true, vec_capacity};
 ghost use Rattle.command_grammar.specs.Table as kinds;
 ghost use Rattle.command_grammar.specs.Table.{Kind, Value};
-ghost use Rattle.reply_printer.specs.Fronts.{Keeps};
+ghost use Rattle.reply_printer.specs.Fronts.{Keeps, LacksRoom};
 ghost use Rattle.request_printer.specs.Faults.{all_listed, has_gap, in_range, is_absent};
 ghost use Rattle.request_printer.specs.Writing.{separator_behind, written};
 
@@ -45,7 +45,9 @@ pub(crate) trait Written {
     fn put(&self, out: &mut Vec<u8>, separator: u8) -> Result<u8, AllocError>
         ensures ok { IfOk result (λ _. out.new.items ≡ out.old.items ++ written separator kind (value self.now)) }
         ensures separator { IfOk result (λ behind. behind ≡ separator_behind kind separator) }
-        ensures kept { Keeps out.old.items out.new.items };
+        ensures wanted { OnErr result (LacksRoom out.old (written separator kind (value self.now))) }
+        ensures kept { Keeps out.old.items out.new.items }
+        ensures room { vec_capacity out.old ≤ vec_capacity out.new };
 
     /// What is found of the argument, whatever stands beside it.
     fn find(&self) -> Found

@@ -7,6 +7,8 @@ use Rattle.server_log.specs.declared.happening.Cause.{Cause}
 use Rattle.server_log.specs.declared.happening.Cause.TheVariants.{Exit, Closed, TooSlow, LineTooLong, Fault, Stop}
 use Rattle.server_log.specs.declared.happening.Refusal.{Refusal}
 use Rattle.server_log.specs.declared.happening.Refusal.TheVariants.{Full, Files, Memory, System, Busy}
+use Rattle.server_log.specs.declared.happening.ReserveState.{ReserveState}
+use Rattle.server_log.specs.declared.happening.ReserveState.TheVariants.{Gone, Whole}
 use Rattle.server_log.specs.declared.happening.Started.{Started}
 use Rattle.server_log.specs.declared.happening.Happening.{Happening}
 use Rattle.server_log.specs.declared.happening.Happening.TheVariants as happening
@@ -31,6 +33,10 @@ refusal_word Memory = codes "memory"
 refusal_word System = codes "system"
 refusal_word Busy = codes "busy"
 
+abbrev pub reserve_word : ReserveState → List ℕ
+reserve_word Gone = codes "gone"
+reserve_word Whole = codes "whole"
+
 -- the word with which a line begins
 abbrev pub word_of : Happening → List ℕ
 word_of (happening.Started started) = codes "started"
@@ -39,6 +45,7 @@ word_of (happening.Denied client name reason) = codes "denied"
 word_of (happening.Logout client name cause) = codes "logout"
 word_of (happening.Refused reason) = codes "refused"
 word_of (happening.MemoryRefused worker) = codes "memory_refused"
+word_of (happening.Reserve state) = codes "reserve"
 word_of (happening.Stopped worker events) = codes "stopped"
 word_of (happening.Lost lines) = codes "log"
 
@@ -60,6 +67,7 @@ fields_of (happening.Logout client name cause) =
     (codes "name", name) ∷ (codes "cause", cause_word cause) ∷ (codes "client", decimal client) ∷ []
 fields_of (happening.Refused reason) = (codes "reason", refusal_word reason) ∷ []
 fields_of (happening.MemoryRefused worker) = (codes "worker", decimal worker) ∷ []
+fields_of (happening.Reserve state) = (codes "state", reserve_word state) ∷ []
 fields_of (happening.Stopped worker events) = (codes "worker", decimal worker) ∷ (codes "events", count_word events)
     ∷ []
 fields_of (happening.Lost lines) = (codes "lost", decimal lines) ∷ []

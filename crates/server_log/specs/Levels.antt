@@ -24,6 +24,7 @@ is_important (happening.Denied client name reason) = true
 is_important (happening.Logout client name cause) = is_forced cause
 is_important (happening.Refused reason) = true
 is_important (happening.MemoryRefused worker) = true
+is_important (happening.Reserve state) = true
 is_important (happening.Stopped worker events) = true
 is_important (happening.Lost lines) = true
 

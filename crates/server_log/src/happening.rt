@@ -1,7 +1,7 @@
 //! What operators are told of.
 
 ghost use Rattle.std.specs.Prelude.{◌≡◌};
-ghost use Rattle.server_log.specs.Fields.{cause_word, denial_word, refusal_word, word_of};
+ghost use Rattle.server_log.specs.Fields.{cause_word, denial_word, refusal_word, reserve_word, word_of};
 
 use crate::text::ShortText;
 
@@ -46,6 +46,15 @@ pub enum Refusal {
     System,
     /// Its worker has not looked after those that wait for it.
     Busy,
+}
+
+/// How the reserve of memory stands.
+#[derive(Clone, Copy, PartialEq, Eq, Debug)]
+pub enum ReserveState {
+    /// It was given up for a log out, and memory is refused to it.
+    Gone,
+    /// It is there again.
+    Whole,
 }
 
 /// What a server is that has started.
@@ -93,6 +102,8 @@ pub enum Happening {
     MemoryRefused {
         worker: u8,
     },
+    /// The reserve of memory is gone, or there again. Each is told once in turn.
+    Reserve(ReserveState),
     /// The server stopped, and this worker made so many events, or more than are counted.
     Stopped {
         worker: u8,
@@ -162,6 +173,18 @@ impl Refusal {
     }
 }
 
+impl ReserveState {
+    /// The word of a line.
+    pub(crate) fn word(self) -> &'static str
+        ensures { result.now ≡ reserve_word self }
+    {
+        match self {
+            ReserveState::Gone => "gone",
+            ReserveState::Whole => "whole",
+        }
+    }
+}
+
 impl Happening {
     /// The word with which its line begins.
     pub(crate) fn word(&self) -> &'static str
@@ -174,6 +197,7 @@ impl Happening {
             Happening::Logout { .. } => "logout",
             Happening::Refused(_) => "refused",
             Happening::MemoryRefused { .. } => "memory_refused",
+            Happening::Reserve(_) => "reserve",
             Happening::Stopped { .. } => "stopped",
             Happening::Lost(_) => "log",
         }

@@ -44,6 +44,7 @@ impl Happening {
             | Happening::Denied { .. }
             | Happening::Refused(_)
             | Happening::MemoryRefused { .. }
+            | Happening::Reserve(_)
             | Happening::Stopped { .. }
             | Happening::Lost(_) => true,
         }

@@ -40,6 +40,7 @@ fn put_fields(out: &mut Vec<u8>, happening: &Happening) -> Result<(), AllocError
         } => put_outcome(out, name, ("cause", cause.word()), *client),
         Happening::Refused(reason) => put_only(out, "reason", reason.word()),
         Happening::MemoryRefused { worker } => put_count(out, "worker", u64::from(*worker)),
+        Happening::Reserve(state) => put_only(out, "state", state.word()),
         Happening::Stopped { worker, events } => put_stopped(out, *worker, *events),
         Happening::Lost(lines) => put_count(out, "lost", *lines),
     }

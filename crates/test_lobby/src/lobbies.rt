@@ -5,8 +5,7 @@ ghost use Rattle.command_grammar.specs.Kinds.{keeps_kinds};
 
 use crate::users::{ACCOUNTS, WORD};
 use account_book::{Account, AccountBook};
-use command_grammar::Request;
-use command_reader::read_request;
+use command_grammar::{Request, read_request};
 use line_words::TextBuf;
 use lobby_machine::Lobby;
 use lobby_model::Settings;

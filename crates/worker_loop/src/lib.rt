@@ -7,6 +7,9 @@
 
 mod error;
 mod inboxes;
+mod leaving;
+mod reserve;
+mod step_queue;
 mod stopping;
 mod turns;
 mod wakers;
@@ -15,6 +18,8 @@ mod worker;
 pub use error::ListenError;
 pub use inboxes::{Arrival, Inboxes};
 pub use lobby_turns::{Conn, Gate, Got, Link, Sent, Turn, TurnState, serve};
+pub use reserve::{BLOCK, BLOCKS, Reserve};
+pub use step_queue::StepQueue;
 pub use turns::Shared;
 pub use wakers::Wakers;
 pub use worker::{WorkerListener, run_worker};

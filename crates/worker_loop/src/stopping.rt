@@ -115,7 +115,7 @@ fn shut_at<R: Wait, G: Gate>(
     if only_told && !connection.is_told {
         return pass;
     }
-    let (pass, turn) = shut(rt, shared, pass, &connection.conn);
+    let (pass, turn, _) = shut(rt, shared, pass, &connection.conn);
     tell_logout(shared.gate, connection, turn.state, Cause::Stop);
     shared.wakers.wake_others(pass.number(), turn.wakes);
     if turn.state == TurnState::Closed {

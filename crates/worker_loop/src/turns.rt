@@ -6,12 +6,14 @@ ghost use Rattle.lobby_lock.specs.Passes.{pass_after};
 ghost use Rattle.lobby_turns.specs.Holds.{IsTaken, Stands};
 
 use crate::inboxes::{Arrival, Inboxes};
+use crate::leaving::{go_on_from_reserve, is_leaving};
+use crate::reserve::Reserve;
 use crate::wakers::Wakers;
 use lobby_connections::{Connection, Connections, NAMES_IN_HOLD, Newcomers};
 use lobby_lock::{Desk, Held, Pass};
 use lobby_machine::{OpenError, Wakes};
 use lobby_model::WORKERS;
-use lobby_turns::{Conn, Gate, GatedDesk, Link, Turn, TurnState, close, serve};
+use lobby_turns::{Conn, Gate, GatedDesk, Link, Turn, TurnState, close, serve_within};
 use mio::{Registry, Token};
 use server_log::{Cause, Happening, Refusal};
 use std::sync::Wait;
@@ -28,6 +30,8 @@ pub struct Shared<'a, G> {
     pub wakers: &'a Wakers,
     /// Whether all workers are to end.
     pub stop: &'a AtomicBool,
+    /// What is kept for log outs where memory is short.
+    pub reserve: &'a Reserve,
     /// What is told what the workers do.
     pub gate: &'a G,
 }
@@ -103,7 +107,7 @@ pub fn turn<R: Wait, G: Gate>(
     turn_within(rt, shared, pass, connections, registry, key, allowance)
 }
 
-/// The connection under a key gets its turn of this round, in which it may tell so many pieces. Nothing happens where
+/// The connection under a key gets its turn of this round, in which it may tell so much. Nothing happens where
 /// there is none.
 fn turn_within<R: Wait, G: Gate>(
     rt: &R,
@@ -122,15 +126,26 @@ fn turn_within<R: Wait, G: Gate>(
         return pass;
     };
     let written = connection.link.writes();
-    let (pass, turn) = serve_or_shut(rt, shared, pass, connection, allowance);
+    let (pass, turn, told) = serve_or_shut(rt, shared, pass, connection, allowance);
     let writes = connection.link.writes().wrapping_sub(written);
-    tell_logout(shared.gate, connection, turn.state, Cause::Closed);
+    let leaves = turn.state == TurnState::Memory && is_leaving(connection);
     tell_refused(shared.gate, connections, pass.number(), turn.state);
+    let (pass, turn, told) = if leaves {
+        go_on_from_reserve(rt, shared, pass, connections, key, turn, told)
+    } else {
+        (pass, turn, told)
+    };
+    if let Some(connection) = connections.at(key) {
+        tell_logout(shared.gate, connection, turn.state, Cause::Closed);
+    }
     connections.end_turn(registry, key, turn.state);
-    connections.count_told(turn.told);
+    if turn.state == TurnState::Closed {
+        shared.reserve.return_freed();
+    }
+    connections.count_told(told);
     connections.count_told(writes.saturating_sub(1).saturating_mul(WRITE));
     pass_on(shared, connections, pass.number(), turn.wakes);
-    shared.gate.after_turn(pass.number(), turn.told);
+    shared.gate.after_turn(pass.number(), told);
     pass
 }
 
@@ -228,11 +243,11 @@ pub fn turn_left<R: Wait, G: Gate>(
     pass
 }
 
-/// What a turn of one who was left over costs beside what it tells, in pieces.
-const LEFT_TURN: u64 = 100;
+/// What a turn of one who was left over costs beside what it tells, as telling so many bytes.
+const LEFT_TURN: u64 = 6_400;
 
-/// What each write of a turn costs behind the first, in pieces: it carries up to 16 KiB.
-const WRITE: u64 = 50;
+/// What each write of a turn costs behind the first, as telling so many bytes: it carries up to 16 KiB.
+const WRITE: u64 = 3_200;
 
 /// The most turns that those get in a round who were named.
 const NAMED_TURNS: usize = 32;
@@ -382,42 +397,44 @@ fn open<R: Wait, G: Gate>(
     (give(rt, shared, held), opened)
 }
 
-/// One turn of a connection. The client of a link that has no room for a turn is shut. Where a link is gone and memory
-/// was refused, what waits for its client is let go, and from then on the client is not served but only shut.
-fn serve_or_shut<R: Wait, G: Gate>(
+/// One turn of a connection, and how much it told. The client of a link that has no room for a turn is shut. Where a
+/// link is gone and memory was refused, what waits for its client is let go, and from then on the client is not served
+/// but only shut.
+pub(crate) fn serve_or_shut<R: Wait, G: Gate>(
     rt: &R,
     shared: &Shared<'_, G>,
     pass: Pass,
     connection: &mut Connection,
     allowance: u64,
-) -> (Pass, Turn)
+) -> (Pass, Turn, u64)
     requires { pass.desk ≡ shared.now.desk.now }
     ensures desk { result.0.desk ≡ pass.desk }
     ensures number { result.0.worker.number ≡ pass.worker.number }
 {
-    let (pass, turn) = if connection.is_over() || !connection.link.fresh() {
+    let (pass, turn, told) = if connection.is_over() || !connection.link.fresh() {
         shut(rt, shared, pass, &connection.conn)
     } else {
         let (conn, link) = (&mut connection.conn, &mut connection.link);
-        serve(rt, conn, link, shared.desk, pass, shared.gate, allowance)
+        let most = Some(allowance);
+        serve_within(rt, conn, link, shared.desk, pass, shared.gate, most)
     };
     if turn.state != TurnState::Memory || !connection.refuse() {
-        return (pass, turn);
+        return (pass, turn, told);
     }
     let pass = lobby_turns::give_up_unread(rt, &connection.conn, shared.desk, pass, shared.gate);
-    (pass, turn)
+    (pass, turn, told)
 }
 
-/// Shuts the client of a connection.
+/// Shuts the client of a connection, and says how much that told.
 pub(crate) fn shut<R: Wait, G: Gate>(
     rt: &R,
     shared: &Shared<'_, G>,
     pass: Pass,
     conn: &Conn,
-) -> (Pass, Turn)
+) -> (Pass, Turn, u64)
     requires { pass.desk ≡ shared.now.desk.now }
     ensures desk { result.0.desk ≡ pass.desk }
     ensures number { result.0.worker.number ≡ pass.worker.number }
 {
-    close(rt, conn, shared.desk, pass, shared.gate, Wakes::none(), 0)
+    close(rt, conn, shared.desk, pass, shared.gate, Wakes::none())
 }

@@ -4,6 +4,8 @@ ghost use Rattle.std.specs.Prelude.{◌≡◌, ◌≤◌};
 
 use crate::error::ListenError;
 use crate::inboxes::{Arrival, Inboxes};
+use crate::leaving::renew_reserve;
+use crate::reserve::Reserve;
 use crate::stopping::{Step, step_all};
 use crate::turns::{self, Shared};
 use crate::wakers::Wakers;
@@ -307,18 +309,21 @@ impl WorkerLoop {
         let registry = self.poll.registry();
         let connections = &mut self.connections;
         let pass = turns::turn_named(rt, shared, pass, connections, registry);
-        turns::turn_left(rt, shared, pass, connections, registry)
+        let pass = turns::turn_left(rt, shared, pass, connections, registry);
+        renew_reserve(shared, connections);
+        pass
     }
 
-    /// Ends all connections in order. Nobody is accepted and no client is read any more. Each is sent what waits for
-    /// it, is shut, and its connection lingers until its other side has ended, in so many rounds at most. Who was not
-    /// sent all by then is shut too.
+    /// Ends all connections in order. Nobody is accepted and no client is read any more, and the reserve of memory is
+    /// let go. Each is sent what waits for it, is shut, and its connection lingers until its other side has ended, in
+    /// so many rounds at most. Who was not sent all by then is shut too.
     fn wind_up<R: Wait, G: Gate>(&mut self, rt: &R, shared: &Shared<'_, G>, pass: Pass) -> Pass
         requires { pass.desk ≡ shared.now.desk.now }
         ensures desk { result.desk ≡ pass.desk }
         ensures number { result.worker.number ≡ pass.worker.number }
     {
         drop(mem::replace(&mut self.listener, None));
+        shared.reserve.give_up();
         let mut pass = pass;
         for _ in 0..LAST_ROUNDS {
             pass = step_all(rt, shared, pass, &mut self.connections, Step::Send);
@@ -404,6 +409,7 @@ pub fn run_worker<R: Wait, G: Gate>(
     inboxes: &Inboxes,
     wakers: &Wakers,
     stop: &AtomicBool,
+    reserve: &Reserve,
     gate: &G,
 ) -> Pass
     requires { pass.desk ≡ desk.now }
@@ -415,6 +421,7 @@ pub fn run_worker<R: Wait, G: Gate>(
         inboxes,
         wakers,
         stop,
+        reserve,
         gate,
     };
     let worker = WorkerLoop::new(alloc, listener, inboxes.workers());

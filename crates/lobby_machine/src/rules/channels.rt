@@ -1,11 +1,13 @@
 //! Channels and private talk: docs/PROTOCOL.md, "What the server does", from "JOIN" to "CHANNELS".
 
-ghost use Rattle.std.specs.Prelude.{◌≡◌, [], ◌∷◌, ◌++◌, OnOk};
+ghost use Rattle.std.specs.Prelude.{◌≡◌, [], ◌∷◌, ◌++◌, OnOk, true};
+ghost use Rattle.channel_book.specs.Channels.{names_in};
 ghost use Rattle.lobby_model.specs.Outcome.{tell, user};
 ghost use Rattle.lobby_model.specs.Channels.{join, leave, name_lines, say_in_channel, say_private, list_channels};
 ghost use Rattle.lobby_post.specs.Posted.{Told, with_own};
 ghost use Rattle.battle_rules.specs.Answers.{Answers};
-ghost use Rattle.lobby_machine.specs.Talk.{channel_lines, left_letters};
+ghost use Rattle.lobby_maps.specs.Fit.{IsSole};
+ghost use Rattle.lobby_machine.specs.Talk.{channel_lines, left_letter, left_letters};
 
 use super::guards::{members_with, names_without, user_named};
 use battle_rules::{Issuer, Stop};
@@ -135,28 +137,64 @@ fn write_channels(maps: &Maps, post: &mut Post) -> Result<(), AllocError>
     Ok(())
 }
 
-/// Tells the others of each channel that a user is in, channel by channel, that it leaves.
+/// Tells the others of each channel that a user is in, channel by channel, that it leaves. For a channel in which
+/// nobody else is, nothing is printed: what was kept for one who logs out is given back though memory is short.
 pub fn tell_left(maps: &Maps, me: &NameBuf, post: &mut Post) -> Result<(), AllocError>
     ensures { OnOk result (Told maps.now.plain post.old post.new (left_letters me.now maps.now.plain.channels)) }
 {
     let book = maps.channels();
     // Its contract says that the names of channels rise, so that each stands for one.
     let _ = book.channel_count();
+    let is_own = is_issuer(maps, me, post);
     if let Some(channels) = book.channels_of(me) {
         for channel in channels {
-            let (names, keys) = book.roster(channel);
-            maps.tell_other_users(
-                names,
-                keys,
-                Reply::Left {
-                    channel: Name(Held::Lent(channel)),
-                    user: Name(Held::Lent(me)),
-                },
-                post,
-            )?;
+            tell_others_left(maps, channel, me, is_own, post)?;
         }
     }
     Ok(())
+}
+
+// Whether the client that the lines are told for is the one at which this user is.
+fn is_issuer(maps: &Maps, me: &NameBuf, post: &Post) -> bool
+    ensures { result ≡ true → IsSole maps.now.plain post.now.issuer me.now }
+{
+    match maps.client_of(me) {
+        Some(client) => client == post.issuer(),
+        None => false,
+    }
+}
+
+// Whether this user alone is in a channel with these names.
+fn is_alone(names: &[NameBuf], me: &NameBuf) -> bool
+    ensures { result ≡ true → names.now ≡ me.now ∷ [] }
+{
+    match names {
+        [only] => only == me,
+        _ => false,
+    }
+}
+
+/// Tells the others of a channel that a user leaves it, whose own event it is, or not.
+fn tell_others_left(
+    maps: &Maps,
+    channel: &NameBuf,
+    me: &NameBuf,
+    is_own: bool,
+    post: &mut Post,
+) -> Result<(), AllocError>
+    requires { is_own ≡ true → IsSole maps.now.plain post.old.issuer me.now }
+    ensures { OnOk result (Told maps.now.plain post.old post.new
+        (left_letter me.now channel.now (names_in maps.now.plain.channels channel.now) ∷ [])) }
+{
+    let (names, keys) = maps.channels().roster(channel);
+    if is_own && is_alone(names, me) {
+        return Ok(());
+    }
+    let line = Reply::Left {
+        channel: Name(Held::Lent(channel)),
+        user: Name(Held::Lent(me)),
+    };
+    maps.tell_other_users(names, keys, line, post)
 }
 
 /// Tells one who joins a channel who is in it, itself the last, 32 names a line.

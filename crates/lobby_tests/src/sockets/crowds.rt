@@ -12,8 +12,8 @@ const ASKER: usize = 0;
 /// Who has the worker kept until all of the crowd have sent their lines.
 const KEEPER: usize = 1;
 
-/// What a round tells at most: 8,000 pieces, and one turn's more.
-const ROUND: u64 = 8_000 + 2_000;
+/// What a round tells at most: 512,000 bytes, and one turn's more.
+const ROUND: u64 = 512_000 + 128_000;
 
 static CROWD_SPEAKS: [Act; 2] = [
     Act {
@@ -40,7 +40,7 @@ static CROWD_SPEAKS: [Act; 2] = [
     },
 ];
 
-/// Forty speak to forty, a hundred lines each, which all wait when the first of them gets its turn: 160,000 pieces in
+/// Forty speak to forty, a hundred lines each, which all wait when the first of them gets its turn: 2.4 MB in
 /// all. Behind that turn the worker stands still until one more has asked. So its turn comes behind what is left of
 /// this round, and before all who are left over then.
 #[test]

@@ -2,7 +2,7 @@
 
 use crate::sockets::clients::LOOKS;
 use crate::sockets::running::PONG;
-use lobby_workers::Gate;
+use lobby_workers::{Gate, Made, Pass};
 use std::sync::atomic::{AtomicBool, AtomicU8, AtomicU64, Ordering};
 use std::thread;
 use std::time::{Clock, Duration};
@@ -37,8 +37,8 @@ pub enum Hold {
     Wake,
 }
 
-/// So many pieces are much: more than any turn tells of which a play does not say that it does.
-const MUCH: u64 = 1_000;
+/// So many bytes are much: more than any turn tells of which a play does not say that it does.
+const MUCH: u64 = 20_000;
 
 /// A gate that keeps workers, and sees who greets, who is woken and what is told.
 #[derive(Drop)]
@@ -59,7 +59,7 @@ pub struct Watch {
     is_turn_there: AtomicBool,
     // it may go on
     may_turn_go: AtomicBool,
-    // how many pieces turns told behind it
+    // how many bytes turns told behind it
     told: AtomicU64,
     // the same when the last PING was answered behind it; 2^64 - 1 before
     told_before: AtomicU64,
@@ -119,7 +119,7 @@ impl Watch {
         !self.is_missed.load(Ordering::SeqCst)
     }
 
-    /// Whether a PING was answered behind the turn that was kept, and turns told so many pieces at most before.
+    /// Whether a PING was answered behind the turn that was kept, and turns told so many bytes at most before.
     pub fn has_told_at_most(&self, most: u64) -> bool {
         self.told_before.load(Ordering::SeqCst) <= most
     }
@@ -157,6 +157,12 @@ impl Watch {
 }
 
 impl Gate for Watch {
+    ghost use Rattle.std.specs.Prelude.{false, ⊤};
+
+    ghost wants = { λ gate. false };
+
+    ghost handed = { λ gate made. ⊤ };
+
     fn before_take(&self, worker: u8) {
         if !matches!(self.hold, Hold::Takes) || !self.is_shut.load(Ordering::SeqCst) {
             return;
@@ -166,6 +172,14 @@ impl Gate for Watch {
         } else {
             self.keep(&self.may_go, &self.is_there);
         }
+    }
+
+    fn wants_events(&self) -> bool {
+        false
+    }
+
+    fn made(&self, made: Made) -> Pass {
+        made.pass()
     }
 
     fn after_write(&self, worker: u8, bytes: &[u8]) {

@@ -70,7 +70,7 @@ pub enum Step {
     TurnIsKept,
     /// It may go on, and was kept until now.
     TurnGoesOn,
-    /// Turns told so many pieces at most, behind the one that was kept and before the last answer to PING.
+    /// Turns told so many bytes at most, behind the one that was kept and before the last answer to PING.
     ToldAtMost(u64),
     /// Each of two workers found the other at the gate.
     WorkersMet,

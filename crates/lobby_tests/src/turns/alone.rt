@@ -395,17 +395,17 @@ static LISTED_ENOUGH: [Step; 7] = [
     Enters(LISTER),
     TurnWithin(0, 0, TurnState::Again),
     Reads(0, GREETED),
-    TurnWithin(0, 64, TurnState::Again),
+    TurnWithin(0, 4_096, TurnState::Again),
     Reads(0, &[(GREETING, 1), (ANNA_IS_IN, 1), (REFUSED, 1)]),
-    TurnWithin(0, 64, TurnState::Idle),
+    TurnWithin(0, 4_096, TurnState::Idle),
     Reads(
         0,
         &[(GREETING, 1), (ANNA_IS_IN, 1), (REFUSED, 2), (b"PONG\n", 1)],
     ),
 ];
 
-/// A line that is refused tells little, and each word that it lists counts. The events are an open, four lines, and
-/// two drains a turn.
+/// A line that is refused tells little, and each word that it lists counts as 64 bytes. The events are an open, four
+/// lines, and two drains a turn.
 #[test]
 fn a_turn_that_listed_enough_puts_lines_off(rt: HostRuntime) {
     play(&rt, rt.alloc(), &LISTED_ENOUGH, 1 + 4 + 6);

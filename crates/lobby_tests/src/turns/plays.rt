@@ -6,8 +6,7 @@ ghost use Rattle.std.specs.Prelude.{◌≡◌};
 use crate::turns::desks::open;
 use crate::turns::serving::take_turns;
 use crate::verdict::{fail, same};
-use lobby_lock::{Closing, Count, Desk, Pass};
-use lobby_model::MadeEvent;
+use lobby_lock::{Closing, Count, Desk, Made, Pass};
 use lobby_turns::{Buffers, Conn, Gate, GatedDesk, TurnState};
 use std::alloc::{AllocError, Global};
 use std::process::Abort;
@@ -47,7 +46,7 @@ pub enum Step {
     Enters(Caller),
     /// A client gets so many turns, or fewer where one shuts it, and the last one comes to this.
     Turns(usize, u64, TurnState),
-    /// A client gets a turn that may tell so many pieces, and it comes to this.
+    /// A client gets a turn that may tell so many bytes, and it comes to this.
     TurnWithin(usize, u64, TurnState),
     /// What was written to a client is just this.
     Reads(usize, Text),
@@ -67,6 +66,12 @@ struct Counting {
 }
 
 impl Gate for Counting {
+    ghost use Rattle.std.specs.Prelude.{true, ⊤};
+
+    ghost wants = { λ gate. true };
+
+    ghost handed = { λ gate made. ⊤ };
+
     fn before_take(&self, worker: u8) {
         let _ = worker;
         self.takes.fetch_add(1, Ordering::SeqCst);
@@ -76,13 +81,13 @@ impl Gate for Counting {
         true
     }
 
-    fn made(&self, worker: u8, events: &[MadeEvent]) {
-        let _ = worker;
-        for event in events {
+    fn made(&self, made: Made) -> Pass {
+        for event in made.events() {
             if event.place == self.in_place.load(Ordering::SeqCst) {
                 self.in_place.fetch_add(1, Ordering::SeqCst);
             }
         }
+        made.pass()
     }
 
     fn after_write(&self, worker: u8, bytes: &[u8]) {
@@ -201,7 +206,7 @@ impl Cast {
         pass: Pass,
         who: usize,
         turns: u64,
-        allowance: u64,
+        allowance: Option<u64>,
         state: TurnState,
     ) -> Pass
         requires { pass.desk ≡ desk.now }
@@ -255,16 +260,16 @@ impl Cast {
         match step {
             Step::Enters(caller) => self.enters(rt, desk, pass, caller),
             Step::Turns(who, turns, state) => self.turns(
+                rt, desk, pass, *who, *turns, None, *state,
+            ),
+            Step::TurnWithin(who, allowance, state) => self.turns(
                 rt,
                 desk,
                 pass,
                 *who,
-                *turns,
-                u64::MAX,
+                1,
+                Some(*allowance),
                 *state,
-            ),
-            Step::TurnWithin(who, allowance, state) => self.turns(
-                rt, desk, pass, *who, 1, *allowance, *state,
             ),
             Step::Reads(who, text) => {
                 self.reads(rt, *who, *text);

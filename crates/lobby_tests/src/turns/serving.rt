@@ -3,7 +3,7 @@
 ghost use Rattle.std.specs.Prelude.{◌≡◌, ◌≤◌};
 
 use lobby_lock::{Desk, Pass};
-use lobby_turns::{Conn, Gate, Link, Turn, TurnState, serve};
+use lobby_turns::{Conn, Gate, Link, Turn, TurnState, serve_within};
 use std::alloc::Global;
 use std::sync::Wait;
 
@@ -25,14 +25,14 @@ pub fn serve_client<R: Wait, L: Link, G: Gate>(
     let client = held.open([10, 0, 0, 1], home).unwrap_or(0);
     let pass = held.give(rt, desk);
     let mut conn = Conn::new(alloc, client);
-    let (pass, state) = take_turns(rt, desk, pass, &mut conn, link, gate, 1, u64::MAX);
+    let (pass, state) = take_turns(rt, desk, pass, &mut conn, link, gate, 1, None);
     drop(pass);
     drop(conn);
     state
 }
 
-/// Gives a connection so many turns, each of which may tell so many pieces, or until its client was shut, and says what
-/// the last one came to.
+/// Gives a connection so many turns, each of which may tell so much, if there is a bound, or until its client was shut,
+/// and says what the last one came to.
 pub fn take_turns<R: Wait, L: Link, G: Gate>(
     rt: &R,
     desk: &Desk,
@@ -41,7 +41,7 @@ pub fn take_turns<R: Wait, L: Link, G: Gate>(
     link: &mut L,
     gate: &G,
     turns: u64,
-    allowance: u64,
+    allowance: Option<u64>,
 ) -> (Pass, Option<TurnState>)
     requires { pass.desk ≡ desk.now }
     ensures desk { result.0.desk ≡ desk.now }
@@ -53,14 +53,9 @@ pub fn take_turns<R: Wait, L: Link, G: Gate>(
         if !link.fresh() {
             return (pass, None);
         }
-        let (
-            next,
-            Turn {
-                state,
-                wakes: _,
-                told: _,
-            },
-        ) = serve(rt, conn, link, desk, pass, gate, allowance);
+        let (next, Turn { state, wakes: _ }, _) = serve_within(
+            rt, conn, link, desk, pass, gate, allowance,
+        );
         pass = next;
         last = Some(state);
         if state == TurnState::Closed {

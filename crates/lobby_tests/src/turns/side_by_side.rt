@@ -7,7 +7,7 @@ use crate::turns::alone::GREETING_AND_PONG;
 use crate::turns::desks::open_for_two;
 use crate::turns::serving::serve_client;
 use crate::verdict::same;
-use lobby_lock::{Desk, Pass};
+use lobby_lock::{Desk, Made, Pass};
 use lobby_turns::{Gate, Got, Link, Sent, TurnState};
 use std::alloc::{AllocError, Global};
 use std::process::Abort;
@@ -79,12 +79,26 @@ impl Meeting {
 }
 
 impl Gate for Meeting {
+    ghost use Rattle.std.specs.Prelude.{false, ⊤};
+
+    ghost wants = { λ gate. false };
+
+    ghost handed = { λ gate made. ⊤ };
+
     fn before_take(&self, worker: u8) {
         if worker != 0 {
             self.come(&self.second_came, &self.first_came);
         } else if matches!(self.stop, Stop::Desk) {
             self.come(&self.first_came, &self.second_came);
         }
+    }
+
+    fn wants_events(&self) -> bool {
+        false
+    }
+
+    fn made(&self, made: Made) -> Pass {
+        made.pass()
     }
 
     fn after_write(&self, worker: u8, bytes: &[u8]) {

@@ -3,8 +3,8 @@
 use crate::record::end::End;
 use crate::record::files::RecordFiles;
 use crate::record::lines::Lines;
+use crate::record::place::Place;
 use crate::sleep::WriterSleep;
-use crossbeam_queue::ArrayQueue;
 use lobby_model::MadeEvent;
 use record_lines::Masks;
 use std::alloc::{AllocError, Global};
@@ -24,7 +24,7 @@ const MANY: usize = 65_536;
 pub struct RecordQueue {
     alloc: Global,
     masks: Masks,
-    waiting: Vec<ArrayQueue<Lines>>,
+    waiting: Vec<Place>,
     /// Why the record ends, once it does.
     end: OnceLock<End>,
     sleep: WriterSleep,
@@ -78,7 +78,7 @@ impl RecordQueue {
 
     /// Puts the lines of the events that a worker made, where the record goes on. A worker without a place is passed
     /// over.
-    pub(crate) fn put<R: Wait>(&self, rt: &R, worker: u8, events: &[MadeEvent]) {
+    pub(crate) fn put(&self, worker: u8, events: &[MadeEvent]) {
         if events.is_empty() {
             return;
         }
@@ -86,7 +86,7 @@ impl RecordQueue {
         let (Some(place), None) = (waiting, self.end.get()) else {
             return;
         };
-        let count = match self.add(rt, place, events) {
+        let count = match self.add(place, events) {
             Ok(count) => count,
             Err(end) => {
                 self.end_by(end);
@@ -99,20 +99,15 @@ impl RecordQueue {
     }
 
     /// Puts the lines of events behind those at a place. How many bytes wait there then.
-    fn add<R: Wait>(
-        &self,
-        rt: &R,
-        place: &ArrayQueue<Lines>,
-        events: &[MadeEvent],
-    ) -> Result<usize, End> {
-        let mut lines = match place.pop(rt) {
+    fn add(&self, place: &Place, events: &[MadeEvent]) -> Result<usize, End> {
+        let mut lines = match place.take() {
             Some(lines) => lines,
             None => Lines::new(self.alloc),
         };
         let added = lines.add_made(self.alloc, &self.masks, events);
         let count = lines.bytes.len();
-        if let Err(refused) = place.push(rt, lines) {
-            // Only this worker lays lines there.
+        if let Err(refused) = place.lay(lines) {
+            // Only this worker lays lines there, and only one thread takes them.
             drop(refused);
             return Err(End::Full);
         }
@@ -143,7 +138,7 @@ impl RecordQueue {
             let is_over = self.sleep.is_over();
             let end = self.end.get().copied();
             self.sleep.show();
-            match (self.write_waiting(rt, &mut files), end) {
+            match (self.write_waiting(&mut files), end) {
                 (Looked::Ends(end), _) | (Looked::Nothing, Some(end)) => {
                     self.end_by(end);
                     files.finish(end);
@@ -164,19 +159,15 @@ impl RecordQueue {
         drop(files);
         // What waits behind the end of the record is let go.
         for place in self.waiting.iter() {
-            drop(place.pop(rt));
+            drop(place.take());
         }
     }
 
     /// Writes what waits.
-    fn write_waiting<R: Wait, W: Write + OpenFile + Drop>(
-        &self,
-        rt: &R,
-        files: &mut RecordFiles<W>,
-    ) -> Looked {
+    fn write_waiting<W: Write + OpenFile + Drop>(&self, files: &mut RecordFiles<W>) -> Looked {
         let mut looked = Looked::Nothing;
         for (worker, place) in self.waiting.iter().enumerate() {
-            let Some(lines) = place.pop(rt) else {
+            let Some(lines) = place.take() else {
                 continue;
             };
             match files.write(worker, lines.bytes) {
@@ -189,10 +180,10 @@ impl RecordQueue {
 }
 
 /// A place for the lines of each worker.
-fn places(alloc: Global, workers: usize) -> Result<Vec<ArrayQueue<Lines>>, AllocError> {
+fn places(alloc: Global, workers: usize) -> Result<Vec<Place>, AllocError> {
     let mut places = Vec::with_capacity(alloc, workers)?;
     for _ in 0..workers {
-        places.push(ArrayQueue::new(alloc, 1)?)?;
+        places.push(Place::new(alloc)?)?;
     }
     Ok(places)
 }

@@ -1,23 +1,26 @@
 //! The gate through which workers record what they make.
 
 use crate::record::queue::RecordQueue;
-use lobby_model::MadeEvent;
+use lobby_lock::{Made, Pass};
 use server_log::Happening;
-use std::sync::Wait;
 use worker_loop::Gate;
 
 /// A gate that also puts what is recorded.
 #[derive(Drop)]
-pub struct Recorder<'a, R: Wait, G> {
-    /// To put with.
-    pub rt: &'a R,
+pub struct Recorder<'a, G> {
     /// What is told what workers do.
     pub gate: &'a G,
     /// Where it puts.
     pub queue: &'a RecordQueue,
 }
 
-impl<R: Wait, G: Gate> Gate for Recorder<'_, R, G> {
+impl<G: Gate> Gate for Recorder<'_, G> {
+    ghost use Rattle.std.specs.Prelude.{⊤, true};
+
+    ghost wants = { λ recorder. true };
+
+    ghost handed = { λ recorder made. ⊤ };
+
     fn before_take(&self, worker: u8) {
         self.gate.before_take(worker);
     }
@@ -26,8 +29,9 @@ impl<R: Wait, G: Gate> Gate for Recorder<'_, R, G> {
         true
     }
 
-    fn made(&self, worker: u8, events: &[MadeEvent]) {
-        self.queue.put(self.rt, worker, events);
+    fn made(&self, made: Made) -> Pass {
+        self.queue.put(made.worker(), made.events());
+        made.pass()
     }
 
     fn after_write(&self, worker: u8, bytes: &[u8]) {

@@ -24,6 +24,8 @@ pub enum Act {
     Come,
     /// One connects at that worker and goes before anything else is done.
     Vanish,
+    /// The first user joins so many channels in which nobody else is, and reads what it is told of each.
+    Join(u32),
 }
 
 /// The lines that are said.
@@ -61,6 +63,16 @@ fn come(lobby: &mut Lobby, is_served: bool) -> bool {
     lobby.shut(client).is_ok()
 }
 
+/// The first user joins the channel of this number, and reads. Says whether memory sufficed.
+fn join(lobby: &mut Lobby, alloc: Global, channel: u32) -> bool {
+    let Ok(line) = format!(in alloc; "JOIN c{channel:05}") else {
+        return false;
+    };
+    let is_done = say(lobby, alloc, 1, line.as_bytes());
+    read_some(lobby, 1, PIECE);
+    is_done
+}
+
 /// Does it, and says whether memory sufficed.
 fn act_once(lobby: &mut Lobby, alloc: Global, lines: &Lines, members: u32, act: Act) -> bool {
     match act {
@@ -74,6 +86,7 @@ fn act_once(lobby: &mut Lobby, alloc: Global, lines: &Lines, members: u32, act: 
         }
         Act::Come => come(lobby, true),
         Act::Vanish => come(lobby, false),
+        Act::Join(count) => (0..count).all(|channel| join(lobby, alloc, channel)),
     }
 }
 

@@ -22,6 +22,12 @@ pub const LONG: usize = 2_048;
 /// The most that sharing a long line may cost for each who shares it, in bytes: a quarter of a copy of the shortest.
 const PLACE: usize = LONG / 4;
 
+/// So many channels one user joins, in the order of their names, which leaves the nodes of trees half empty; and so
+/// many bytes may each take, with what the index of users has of it.
+const ALONE: usize = 10_000;
+
+const CHANNEL: usize = 450;
+
 /// So many bytes more may a few blocks have that were made anew: the C library rounds each up by 32 at most.
 const ROUNDED: usize = 256;
 
@@ -104,7 +110,7 @@ pub static MANY_PARTS: [Part; 7] = [
     },
 ];
 
-pub static FEW_PARTS: [Part; 4] = [
+pub static FEW_PARTS: [Part; 5] = [
     Part {
         rule: "one growth at most for each who is told a first line",
         acts: &[(1, Act::Short)],
@@ -144,6 +150,15 @@ pub static FEW_PARTS: [Part; 4] = [
         growths: 3_000,
         asked: 2 * GREETING.len() * 3_000,
         kept: ROUNDED,
+    },
+    Part {
+        rule: "a channel in which one user is alone takes no more than 450 bytes",
+        acts: &[(1, Act::Join(ALONE as u32))],
+        before: 0,
+        times: 1,
+        growths: 20 * ALONE,
+        asked: 10 * CHANNEL * ALONE,
+        kept: CHANNEL * ALONE,
     },
 ];
 

@@ -7,7 +7,7 @@ use crate::refusing::notes::Notes;
 use crate::refusing::refuser::Refuser;
 use crate::turns::places;
 use crate::turns::sides::{Caller, Side, Sides};
-use lobby_lock::{Desk, Pass};
+use lobby_lock::{Desk, Made, Pass};
 use lobby_machine::OpenError;
 use lobby_turns::{Buffers, Gate, Link, PIECE, TurnState, serve};
 use std::sync::Wait;
@@ -39,8 +39,22 @@ pub enum Came {
 struct Open;
 
 impl Gate for Open {
+    ghost use Rattle.std.specs.Prelude.{false, ⊤};
+
+    ghost wants = { λ gate. false };
+
+    ghost handed = { λ gate made. ⊤ };
+
     fn before_take(&self, worker: u8) {
         let _ = worker;
+    }
+
+    fn wants_events(&self) -> bool {
+        false
+    }
+
+    fn made(&self, made: Made) -> Pass {
+        made.pass()
     }
 
     fn after_write(&self, worker: u8, bytes: &[u8]) {
@@ -75,15 +89,7 @@ fn turn<R: Wait>(rt: &R, desk: &Desk, pass: Pass, side: &mut Side) -> (Pass, Cam
     if !side.link.fresh() {
         return (pass, Came::Wrong);
     }
-    let (pass, turn) = serve(
-        rt,
-        &mut side.conn,
-        &mut side.link,
-        desk,
-        pass,
-        &Open,
-        u64::MAX,
-    );
+    let (pass, turn) = serve(rt, &mut side.conn, &mut side.link, desk, pass, &Open);
     let mut buffers = Buffers::new(side.alloc);
     side.conn.settle(&mut buffers);
     drop(buffers);

@@ -11,7 +11,7 @@ returns-clause-ok g c = λ wire.
     let old : Carried = record { session = c.conn.inside.session; unfed = c.conn.inside.unfed.bytes; unwritten = c.conn.inside.unwritten.bytes } in
     let new : Carried = record { session = c.conn.inside.session; unfed = c.conn.inside.unfed.bytes; unwritten = drained.new.unwritten.bytes } in
     subst (λ (x : Carried). Drains (snapshot x wire c.args.pass) (snapshot new wire c.give.result) drained.result.finished drained.result.dry) c.conn.view_is (
-    drains_held old new wire c.args.pass c.give.result held drained.new.held c.client-client.result _ _ _ c.take-held.ensures.taken c.give.ensures c.take-held.ensures.fresh drained.ensures.pass drained.ensures.count
+    drains_held old new wire c.args.pass c.give.result held drained.new.held c.client-client.result _ _ _ c.take-held.ensures.taken c.give.ensures.pass c.take-held.ensures.fresh drained.ensures.pass drained.ensures.count
     c.client-client.ensures drained.ensures.drained refl refl (sym c.make_room.ensures.bytes) refl)
 
 pub returns-clause-came : goal.returns-clause-came

@@ -1,6 +1,7 @@
-use Rattle.std.proofs.Common.{◌≡◌, ℕ, [], ◌∷◌, ◌++◌, subst}
+use Rattle.std.proofs.Common.{◌≡◌, ℕ, [], ◌∷◌, ◌++◌, subst, sym}
 use Rattle.lobby_model.specs.declared.event.Event.TheVariants as event
 use Rattle.lobby_post.specs.Mail.{IsWakes}
+use Rattle.lobby_machine.specs.Work.{told_on}
 use Rattle.lobby_lock.specs.Passes.{pass_after}
 use Rattle.lobby_holds.proofs.Joins.{joined_more}
 use Rattle.lobby_holds.proofs.Lines.{accepts}
@@ -19,4 +20,5 @@ returns-in-Ok-clause-ok g c = λ wire.
           c.requires.next (accepts c.args.conn.now.session c.accept.new.self.session request c.accept.ensures.session)
           (joined_more h k (event.Say c.args.conn.now.session.client request) c.requires.stands one);
       wakes_are = subst (λ (d : ℕ). IsWakes h.lobby.plain (event.Say d request) c.in-Ok.wakes) c.client.ensures c.in-Ok.ensures.wakes;
+      told_is = sym (subst (λ (d : ℕ). k.lobby.told ≡ told_on h.lobby.told h.lobby.plain (event.Say d request)) c.client.ensures c.in-Ok.ensures.told);
     })

@@ -1,11 +1,12 @@
 use Rattle.std.proofs.Common.{◌∙◌, ◌+◌, ℕ, ap, arith, drop, refl, subst, sym}
 use Rattle.std.specs.Prelude.{◌||◌}
-use Rattle.lobby_post.specs.Mail.{AreDue, plain, wakes_home}
+use Rattle.lobby_post.specs.Mail.{AreDue, bytes_for, plain, wakes_home}
 use Rattle.lobby_post.proofs.Crowds.{written_through}
-use Rattle.lobby_post.proofs.Rounds.{inside_next, pieces_is, less_due, less_past, due_here, limits_next, ready_next, clients_next, clients_past, clients_end, wakes_next, woken_past, wakes_end, none_left, no_shares, told_end, told_next}
+use Rattle.lobby_post.proofs.Rounds.{inside_next, pieces_is, less_due, less_past, due_here, limits_next, ready_next, clients_next, clients_past, clients_end, wakes_next, woken_past, wakes_end, none_left, no_shares, told_behind, told_end, told_next}
 use Rattle.lobby_post.specs.Dues.{shares_of}
 use Rattle.lobby_post.specs.Pieces.{pieces_of}
-use Rattle.lobby_post.specs.Weights.{counted_on, weight}
+use Rattle.std.specs.Map.{keys_of}
+use Rattle.lobby_post.specs.Amounts.{bytes_in_all, counted_on}
 use Rattle.lobby_post.specs.Dirty.{AreKnown, line_of, listings_of}
 use Rattle.lobby_post.proofs.Underway.{IsUnderway, known_end, newly_end, stands_next, underway_first, underway_next, underway_past}
 use Rattle.lobby_post.proofs.delivery.deliver.Goals as goal
@@ -30,9 +31,6 @@ loop-piece-preserved c =
     let inv = c.loop-piece.invariant in
     let first = subst (λ ps. AreDue ps c.loop-piece.clients)
     (pieces_is c.args.text.now c.args.pieces.now c.loop-piece.piece-index c.loop-piece-test.true) inv.due in
-    let told = ap (λ n. counted_on n (weight (pieces_of c.args.text.now (drop (c.loop-piece.piece-index + 1) c.args.pieces.now))))
-    c.with_piece-count.ensures
-    ∙ told_next c.args.text.now c.args.pieces.now c.loop-piece.piece-index c.loop-piece-test.true c.loop-piece.count ∙ inv.told in
     let shared = inv.shares
     ∙ ap shares_of (pieces_is c.args.text.now c.args.pieces.now c.loop-piece.piece-index c.loop-piece-test.true) in
     let begun : (n : ℕ) → AreKnown (listings_of c.args.clients.now) (line_of c.args.dirty.now) n → IsUnderway _ _ _ _ _ _ n = λ n known.
@@ -41,13 +39,15 @@ loop-piece-preserved c =
     elim c.match-get_mut_at.branch [
       | in-Some w ↦
           let written = written_through _ w.in-Some.slot.now w.put.new.slot c.loop-piece.clients w.in-Some.ensures.value in
-          rw (w.clients-is, w.dirty-is, w.wakes-is, w.shares-is) (record {
+          rw (w.clients-is, w.dirty-is, w.wakes-is, w.shares-is, w.count-is) (record {
             inside = inside_next c.args.text.now c.args.pieces.now c.loop-piece.piece-index c.loop-piece-test.true inv.inside;
             due = less_due _ _ _ w.in-Some.slot.now w.put.new.slot c.loop-piece.clients _ written w.in-Some.ensures.value w.put.ensures.client.heard w.put.ensures.due w.put.ensures.uncounted first;
             ready = ready_next _ w.in-Some.slot.now w.put.new.slot c.loop-piece.clients _ written w.in-Some.ensures.value w.put.ensures.ready inv.ready;
             shares = (w.next_share-share.ensures _ shared).1;
-            told = told;
-            small = omega (arith, c.with_piece-count.ensures);
+            told = told_next c.args.text.now c.args.pieces.now c.loop-piece.piece-index c.loop-piece-test.true c.loop-piece.count w.with_bytes-count.result w.in-Some.slot.now w.put.new.slot c.loop-piece.clients
+                w.with_bytes-count.ensures w.in-Some.ensures.value c.get_mut_at.ensures.ordered
+                ∙ inv.told;
+            small = omega (arith, w.with_bytes-count.ensures);
             limits = λ limit all. limits_next limit _ w.in-Some.slot.now w.put.new.slot c.loop-piece.clients _ written w.in-Some.ensures.value w.put.ensures.limit (inv.limits limit all);
             clients = λ limit all. clients_next c.args.text.now c.args.pieces.now c.loop-piece.piece-index c.loop-piece-test.true w.in-Some.slot.now w.put.new.slot c.loop-piece.clients _ refl w.in-Some.ensures.value w.put.ensures.client c.get_mut_at.ensures.ordered inv.due limit (inv.limits limit all) ∙ inv.clients limit all;
             wakes = λ limit home. wakes_next c.args.text.now c.args.pieces.now c.loop-piece.piece-index c.loop-piece-test.true w.in-Some.slot.now w.put.new.slot c.loop-piece.clients _ refl w.in-Some.ensures.value w.put.ensures.client c.get_mut_at.ensures.ordered inv.due
@@ -58,13 +58,13 @@ loop-piece-preserved c =
           })
       | in-None w ↦
           let none = sym w.in-None.ensures.value in
-          rw (w.clients-is, w.dirty-is, w.wakes-is, w.shares-is) (record {
+          rw (w.clients-is, w.dirty-is, w.wakes-is, w.shares-is, w.count-is) (record {
             inside = inside_next c.args.text.now c.args.pieces.now c.loop-piece.piece-index c.loop-piece-test.true inv.inside;
             due = less_past _ _ _ c.loop-piece.clients none first;
             ready = inv.ready;
             shares = (w.next_share-unused.ensures _ shared).1;
-            told = told;
-            small = omega (arith, c.with_piece-count.ensures);
+            told = told_behind c.args.text.now c.args.pieces.now c.loop-piece.piece-index c.loop-piece-test.true c.loop-piece.count c.loop-piece.clients none ∙ inv.told;
+            small = inv.small;
             limits = inv.limits;
             clients = λ limit all. clients_past c.args.text.now c.args.pieces.now c.loop-piece.piece-index c.loop-piece-test.true c.loop-piece.clients none limit ∙ inv.clients limit all;
             wakes = λ limit home. woken_past c.args.text.now c.args.pieces.now c.loop-piece.piece-index c.loop-piece-test.true c.loop-piece.clients none limit c.loop-piece.wakes home ∙ inv.wakes limit home;
@@ -86,7 +86,7 @@ returns-clause-shares c = c.loop-piece.invariant.shares
     ∙ no_shares c.args.text.now c.args.pieces.now c.loop-piece.piece-index c.loop-piece-test.false
 
 pub returns-clause-told : goal.returns-clause-told
-returns-clause-told c = told_end c.args.text.now c.args.pieces.now c.loop-piece.piece-index c.loop-piece-test.false c.loop-piece.count c.loop-piece.invariant.small
+returns-clause-told c = told_end c.args.text.now c.args.pieces.now c.loop-piece.piece-index c.loop-piece-test.false c.loop-piece.count (keys_of c.loop-piece.clients) c.loop-piece.invariant.small
     ∙ c.loop-piece.invariant.told
 
 pub returns-clause-wakes : goal.returns-clause-wakes

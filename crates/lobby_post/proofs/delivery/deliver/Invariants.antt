@@ -4,8 +4,9 @@ use Rattle.std.specs.List.{AllByRecursion}
 use Rattle.lobby_post.specs.Mask.{has_home}
 use Rattle.lobby_post.specs.Dues.{shares_of}
 use Rattle.lobby_post.specs.Pieces.{LiesIn, pieces_of}
-use Rattle.lobby_post.specs.Weights.{counted_on, weight}
-use Rattle.lobby_post.specs.Mail.{AreDue, AreReady, HaveLimit, plain, deliver, wakes_home}
+use Rattle.std.specs.Map.{keys_of}
+use Rattle.lobby_post.specs.Amounts.{bytes_in_all, counted_on}
+use Rattle.lobby_post.specs.Mail.{AreDue, AreReady, HaveLimit, bytes_for, plain, deliver, wakes_home}
 use Rattle.lobby_post.specs.Dirty.{AreKnown, line_of, listings_of, stands}
 use Rattle.lobby_post.proofs.Underway.{IsUnderway}
 use Rattle.lobby_post.proofs.delivery.deliver.Given as goal
@@ -16,7 +17,8 @@ invariant-loop-piece l = record {
   due : AreDue (pieces_of l.text (drop l.piece-index l.pieces)) l.clients;
   ready : AreReady l.clients;
   shares : l.shares.items ≡ shares_of (pieces_of l.text (drop l.piece-index l.pieces));
-  told : counted_on l.count (weight (pieces_of l.text (drop l.piece-index l.pieces))) ≡ counted_on l.initial.told (weight (pieces_of l.text l.pieces));
+  told : counted_on l.count (bytes_in_all (bytes_for (pieces_of l.text (drop l.piece-index l.pieces))) (keys_of l.clients))
+      ≡ counted_on l.initial.told (bytes_in_all (bytes_for (pieces_of l.text l.pieces)) (keys_of l.initial.clients));
   small : l.count < 2 ^ 64;
   limits : (limit : ℕ) → HaveLimit limit l.initial.clients → HaveLimit limit l.clients;
   clients : (limit : ℕ) → HaveLimit limit l.initial.clients

@@ -4,7 +4,7 @@ use Rattle.lobby_turns.proofs.Receivings.{IsReceiving}
 use Rattle.lobby_turns.proofs.receiving.receive.Given as goal
 
 abbrev pub invariant-loop-lines : goal.invariant-loop-lines
-invariant-loop-lines g l = IsReceiving (snapshot l.fn.conn (g.L.Link.wire l.fn.link) l.fn.pass) (snapshot l.conn (g.L.Link.wire l.link) l.pass) l.lines l.reads l.bytes l.all.wakes
+invariant-loop-lines g l = IsReceiving (snapshot l.fn.conn (g.L.Link.wire l.fn.link) l.fn.pass) (snapshot l.conn (g.L.Link.wire l.link) l.pass) l.lines l.reads l.bytes l.all.wakes l.all.told
 
 abbrev pub decreases-loop-lines : goal.decreases-loop-lines
 decreases-loop-lines g l = (64 - l.lines) + (16 - l.reads)

@@ -19,8 +19,8 @@ returns-then-not-is_quiet-clause-received g c =
     put_off _ _ refl c.in-Ok.ensures.unwritten (c.in-Ok.ensures.went (g.L.Link.wire c.args.link.now) c.args.pass) c.in-Ok.ensures.fed
     (c.in-Ok-Line.request, subst (λ (x : Next). IsNextOf (Some c.feed.new.self.session) x) c.in-Ok-Line.field-0-is c.in-Ok-Line.ensures.ok, search rules)
 
-pub returns-else-left-eq0-clause-received : goal.returns-else-left-eq0-clause-received
-returns-else-left-eq0-clause-received g c = fed_first _ _ _ _ (c.in-Ok.ensures.went (g.L.Link.wire c.args.link.now) c.args.pass) refl c.in-Ok.ensures.unwritten (said_next _ _ _ refl (c.say-pass.ensures.says (g.L.Link.wire c.args.link.now)))
+pub returns-else-eq-clause-received : goal.returns-else-eq-clause-received
+returns-else-eq-clause-received g c = fed_first _ _ _ _ (c.in-Ok.ensures.went (g.L.Link.wire c.args.link.now) c.args.pass) refl c.in-Ok.ensures.unwritten (said_next _ _ _ refl (c.say-pass.ensures.says (g.L.Link.wire c.args.link.now)))
 
 pub returns-in-Ok-Nothing-clause-received : goal.returns-in-Ok-Nothing-clause-received
 returns-in-Ok-Nothing-clause-received g c = fed_first _ _ _ _ (c.in-Ok.ensures.went (g.L.Link.wire c.args.link.now) c.args.pass) refl c.in-Ok.ensures.unwritten c.receive_link.ensures.received

@@ -6,10 +6,10 @@ use Rattle.lobby_turns.proofs.Turns.{closes_shut}
 use Rattle.lobby_turns.proofs.serving.close.Goals as goal
 
 pub returns-in-Ok-clause-closes : goal.returns-in-Ok-clause-closes
-returns-in-Ok-clause-closes g c = λ wire. closes_shut _ _ _ _ _ (from_ok _ _ _ c.in-Ok.is c.shut-pass.ensures.ok wire) c.union.ensures
+returns-in-Ok-clause-closes g c = λ wire. closes_shut _ _ _ _ _ _ (from_ok _ _ _ c.in-Ok.is c.shut-pass.ensures.ok wire) c.union.ensures
 
 pub returns-in-Err-clause-closes : goal.returns-in-Err-clause-closes
-returns-in-Err-clause-closes g c = λ wire. (from_err _ _ _ c.in-Err.is c.shut-pass.ensures.err wire, refl)
+returns-in-Err-clause-closes g c = λ wire. (from_err _ _ _ c.in-Err.is c.shut-pass.ensures.err wire, refl, from_err _ _ _ c.in-Err.is c.shut-pass.ensures.untold)
 
 pub returns-in-Ok-clause-desk : goal.returns-in-Ok-clause-desk
 returns-in-Ok-clause-desk g c = (kept _ _ _ (from_ok _ _ _ c.in-Ok.is c.shut-pass.ensures.ok untouched).went.joined).0

@@ -25,3 +25,15 @@ pub returns-in-Shut-clause-records : goal.returns-in-Shut-clause-records
 returns-in-Shut-clause-records c =
     closed c.args.masks.now c.args.made.now c.args.out.now.items c.put_shut.new.out.items c.put_shut.result c.in-Shut.client
     c.in-Shut.is c.put_shut.ensures.ok
+
+pub returns-in-Open-clause-wanted : goal.returns-in-Open-clause-wanted
+returns-in-Open-clause-wanted c = λ e. rw c.in-Open.is (c.put_open.ensures.wanted e)
+
+pub returns-in-Say-clause-wanted : goal.returns-in-Say-clause-wanted
+returns-in-Say-clause-wanted c = λ e. rw c.in-Say.is (c.put_said.ensures.wanted e)
+
+pub returns-in-Drain-clause-wanted : goal.returns-in-Drain-clause-wanted
+returns-in-Drain-clause-wanted c = λ e. rw c.in-Drain.is (c.put_read.ensures.wanted e)
+
+pub returns-in-Shut-clause-wanted : goal.returns-in-Shut-clause-wanted
+returns-in-Shut-clause-wanted c = λ e. rw c.in-Shut.is (c.put_shut.ensures.wanted e)

@@ -1,4 +1,4 @@
-use Rattle.std.proofs.Common.{◌≡◌, ◌++◌, take}
+use Rattle.std.proofs.Common.{◌≡◌, ◌≤◌, ◌++◌, take, vec_capacity}
 use Rattle.reply_printer.specs.Fronts.{Keeps}
 use Rattle.record_lines.specs.Printed.{escaped}
 use Rattle.record_lines.proofs.escapes.put_escaped.Given as goal
@@ -7,4 +7,5 @@ abbrev pub invariant-loop-byte : goal.invariant-loop-byte
 invariant-loop-byte l = record {
   text : l.out.items ≡ l.fn.out.items ++ escaped (take l.byte-index l.bytes);
   kept : Keeps l.fn.out.items l.out.items;
+  room : vec_capacity l.fn.out ≤ vec_capacity l.out;
 }

@@ -4,4 +4,4 @@ use Rattle.reply_printer.proofs.Kept.{Putting}
 use Rattle.reply_printer.proofs.pieces.put_pairs.Given as goal
 
 abbrev pub invariant-loop-pair : goal.invariant-loop-pair
-invariant-loop-pair l = Putting l.fn.out.items l.out.items (pairs_text l.separator (drop l.pair-index l.pairs)) (pairs_text 32 l.pairs)
+invariant-loop-pair l = Putting l.fn.out l.out (pairs_text l.separator (drop l.pair-index l.pairs)) (pairs_text 32 l.pairs)

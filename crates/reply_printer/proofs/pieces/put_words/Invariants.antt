@@ -4,4 +4,4 @@ use Rattle.reply_printer.proofs.Kept.{Putting}
 use Rattle.reply_printer.proofs.pieces.put_words.Given as goal
 
 abbrev pub invariant-loop-word : goal.invariant-loop-word
-invariant-loop-word l = Putting l.fn.out.items l.out.items (words_text (drop l.word-index l.words)) (words_text l.words)
+invariant-loop-word l = Putting l.fn.out l.out (words_text (drop l.word-index l.words)) (words_text l.words)

@@ -16,6 +16,22 @@ invariant_of-self g c = subst AreLively (sym (
     c.get_mut.ensures.ordered c.in-Some.ensures.value c.remove.ensures.names (sym c.remove.ensures.rest ∙ c.if-not-remove.true)))
     (AreLively-left c.self.inside.channels.entries c.args.channel.now c.args.user.now c.self.invariant)
 
+pub invariant_of-self-then-not-remove-2 : goal.invariant_of-self-then-not-remove-2
+invariant_of-self-then-not-remove-2 g c = subst AreLively (sym (
+    c.remove-then-not-remove.ensures.entries
+    ∙ ap (remove_entry (is_at (name_cmp c.args.channel.now))) (c.get_mut.follows.holds c.remove.new.self).0
+    ∙ left_empty c.self.inside.channels.entries c.args.channel.now c.args.user.now c.self.invariant c.in-Some.members.now c.remove.new.self
+    c.get_mut.ensures.ordered c.in-Some.ensures.value c.remove.ensures.names (sym c.remove.ensures.rest ∙ c.if-not-remove.true)))
+    (AreLively-left c.self.inside.channels.entries c.args.channel.now c.args.user.now c.self.invariant)
+
+pub invariant_of-self-then-not-remove-3 : goal.invariant_of-self-then-not-remove-3
+invariant_of-self-then-not-remove-3 g c = subst AreLively (sym (
+    c.remove-then-not-remove.ensures.entries
+    ∙ ap (remove_entry (is_at (name_cmp c.args.channel.now))) (c.get_mut.follows.holds c.remove.new.self).0
+    ∙ left_empty c.self.inside.channels.entries c.args.channel.now c.args.user.now c.self.invariant c.in-Some.members.now c.remove.new.self
+    c.get_mut.ensures.ordered c.in-Some.ensures.value c.remove.ensures.names (sym c.remove.ensures.rest ∙ c.if-not-remove.true)))
+    (AreLively-left c.self.inside.channels.entries c.args.channel.now c.args.user.now c.self.invariant)
+
 pub invariant_of-self-else-not-remove : goal.invariant_of-self-else-not-remove
 invariant_of-self-else-not-remove g c = subst AreLively (sym (
     (c.get_mut.follows.holds c.remove.new.self).0

@@ -1,10 +1,12 @@
-use Rattle.std.proofs.Common.{◌∙◌, subst, sym}
+use Rattle.std.proofs.Common.{sym, subst}
 use Rattle.std.specs.List.{IsDistinct}
-use Rattle.std.proofs.lemmas.List.{map-id}
 use Rattle.line_words.specs.Table.{same_name}
-use Rattle.line_words.proofs.Keyed.{distinct_names}
 use Rattle.channel_book.proofs.members.Members.as_slice.Goals as goal
 
-pub returns-clause-distinct : goal.returns-clause-distinct
-returns-clause-distinct g c =
-    subst (IsDistinct same_name) (map-id _ ∙ sym c.keys.ensures.rest ∙ sym c.as_slice.ensures) (distinct_names (λ name. name) _ c.keys.ensures.unique)
+pub returns-in-Nobody-clause-distinct : goal.returns-in-Nobody-clause-distinct
+unfolding IsDistinct
+returns-in-Nobody-clause-distinct g c = tt
+
+pub returns-in-One-clause-distinct : goal.returns-in-One-clause-distinct
+unfolding IsDistinct
+returns-in-One-clause-distinct g c = subst (IsDistinct same_name) (sym c.from_ref.ensures.value) (tt, tt)

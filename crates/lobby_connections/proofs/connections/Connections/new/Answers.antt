@@ -6,4 +6,4 @@ use Rattle.lobby_connections.proofs.connections.Connections.new.Goals as goal
 pub returns-clause-some : goal.returns-clause-some
 returns-clause-some c =
     let w = c.args.workers in
-    (le-div 1 2000 w (omega (arith, c.requires.some)) (omega (arith, c.requires.few)), le-div (2000 / w) 8000 w (omega (arith, c.requires.some)) (omega (arith, div-mul-le_self 2000 w)))
+    (le-div 1 128000 w (omega (arith, c.requires.some)) (omega (arith, c.requires.few)), le-div (128000 / w) 512000 w (omega (arith, c.requires.some)) (omega (arith, div-mul-le_self 128000 w)))

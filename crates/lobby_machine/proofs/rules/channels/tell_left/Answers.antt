@@ -1,5 +1,5 @@
 use Rattle.std.proofs.lemmas.Grind.{common_steps}
-use Rattle.std.proofs.Common.{◌≡◌, ◌∙◌, ap, subst, map, rules, List, [], arith}
+use Rattle.std.proofs.Common.{◌≡◌, ◌∙◌, ap, subst, sym, map, rules, List, [], arith}
 use Rattle.std.proofs.lemmas.Map.Iter.{iter_end}
 use Rattle.std.specs.List.Sorted.{IsStrictlySortedBy}
 use Rattle.std.specs.Map.{keys_of}
@@ -8,6 +8,7 @@ use Rattle.line_words.specs.Table.{name_cmp}
 use Rattle.channel_book.specs.Channels.{Channels, channels_of}
 use Rattle.lobby_model.specs.Outcome.{Letter}
 use Rattle.lobby_post.specs.Posted.{Told}
+use Rattle.lobby_maps.specs.Fit.{IsSole}
 use Rattle.lobby_post.proofs.Telling.{told_nothing}
 use Rattle.lobby_machine.proofs.OwnChannels.{letters_are, none_listed}
 use Rattle.lobby_machine.proofs.rules.channels.tell_left.Goals as goal
@@ -32,5 +33,8 @@ returns-in_default c =
     (letters_are c.args.me.now s.channels rising [] own)
     (told_nothing s c.args.post.now)
 
-pub returns-in_err-tell_other_users : goal.returns-in_err-tell_other_users
-returns-in_err-tell_other_users c = grind (arith, common_steps)
+pub returns-in_err-tell_others_left : goal.returns-in_err-tell_others_left
+returns-in_err-tell_others_left c = grind (arith, common_steps)
+
+pub tell_others_left-requires : goal.tell_others_left-requires
+tell_others_left-requires c = λ own. subst (λ n. IsSole c.args.maps.now.plain n c.args.me.now) (sym c.loop-channel.invariant.issuer) (c.is_issuer-is_own.ensures own)

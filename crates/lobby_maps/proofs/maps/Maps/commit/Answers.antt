@@ -1,8 +1,12 @@
-use Rattle.std.proofs.Common.{◌≡◌, ◌≤◌, ◌∙◌, ap, sym, subst, arith}
+use Rattle.std.proofs.Common.{◌≡◌, ℕ, List, ◌+◌, ◌≤◌, ◌∙◌, ap, sym, subst, arith}
+use Rattle.std.specs.Map.{keys_of}
 use Rattle.line_words.specs.Table.{ByName, ByNumber}
 use Rattle.lobby_model.specs.State.{State, Client, Battle}
 use Rattle.lobby_battles.specs.declared.online_users.OnlineUser.{OnlineUser}
-use Rattle.lobby_post.specs.Mail.{plain, deliver, wakes_home}
+use Rattle.lobby_model.proofs.Splits.{keys-values}
+use Rattle.lobby_post.specs.Amounts.{bytes_in_all, counted_on}
+use Rattle.lobby_post.specs.Mail.{Mailbox, bytes_for, plain, deliver, wakes_home}
+use Rattle.lobby_post.proofs.Sums.{counted_twice}
 use Rattle.lobby_post.specs.Crowd.{Crowd, Known, waits}
 use Rattle.lobby_maps.specs.Dirty.{DirtyAfter, lists_of, those_there}
 use Rattle.lobby_maps.specs.Changes.{CanBe, changed, clients_after, users_after}
@@ -11,7 +15,7 @@ use Rattle.lobby_maps.specs.Fit.{Numbered}
 use Rattle.lobby_battles.specs.Battles.{KnowTheirBattles}
 use Rattle.lobby_maps.specs.Shown.{lobby_of}
 use Rattle.lobby_maps.proofs.Numbered.{numbered_after}
-use Rattle.lobby_maps.proofs.Applied.{sent_so, woken_so}
+use Rattle.lobby_maps.proofs.Applied.{sent_so, told_so, woken_so}
 use Rattle.lobby_maps.proofs.Fitting.{fit_same, fit_delivered, counted_after}
 use Rattle.lobby_maps.proofs.Plain.{plainly, shown_same}
 use Rattle.lobby_maps.proofs.Lists.{known_same, listed_as, lists_same, waits_same}
@@ -99,6 +103,20 @@ returns-in-Ok-done-clause-wakes c =
     (λ home. c.deliver.ensures.wakes home ∙ (λ i. wakes_home (limited i) c.args.post.now.sent
     ((c.in-Ok-done.ensures.clients ∙ ap (λ (m : ByNumber Client). clients_after m c.args.client c.args.change) c.reserve.ensures.clients) i) home)))
 
+pub returns-in-Ok-done-clause-told : goal.returns-in-Ok-done-clause-told
+returns-in-Ok-done-clause-told c =
+    let before : State = lobby_of c.self.inside.settings c.self.inside.accounts (plain c.self.inside.clients.slots)
+    (users_of c.self.inside.online.users.entries) c.self.inside.channels c.self.inside.battles.by_number.entries c.self.inside.last_client c.self.inside.battles.last in
+    let slots : ByNumber Mailbox = c.apply-done.new.clients.slots in
+    let gets : ℕ → List ℕ = bytes_for c.args.post.now.sent in
+    let told : c.deliver.new.told ≡ counted_on c.self.inside.told (c.args.more + bytes_in_all gets (keys_of (plain slots))) =
+    c.deliver.ensures.told ∙ counted_twice c.self.inside.told c.args.more (bytes_in_all gets (keys_of slots))
+    ∙ ap (λ ks. counted_on c.self.inside.told (c.args.more + bytes_in_all gets ks)) (sym (keys-values (λ held. held.client) slots)) in
+    rw (← c.self.view_is) (λ e is matches.
+    told ∙ ap (λ n. counted_on c.self.inside.told (c.args.more + n))
+    (told_so before (changed before c.args.client c.args.change) e c.args.post.now is matches (plain slots)
+    (c.in-Ok-done.ensures.clients ∙ ap (λ (m : ByNumber Client). clients_after m c.args.client c.args.change) c.reserve.ensures.clients)))
+
 pub apply-done-requires-clause-can : goal.apply-done-requires-clause-can
 apply-done-requires-clause-can c =
     subst (λ (m : ByNumber Client). CanBe m (users_of c.self.inside.online.users.entries) c.self.inside.channels c.self.inside.battles.by_number.entries
@@ -127,7 +145,7 @@ pub returns-in-Err-clause-err : goal.returns-in-Err-clause-err
 returns-in-Err-clause-err c =
     let before : State = lobby_of c.self.inside.settings c.self.inside.accounts (plain c.self.inside.clients.slots)
     (users_of c.self.inside.online.users.entries) c.self.inside.channels c.self.inside.battles.by_number.entries c.self.inside.last_client c.self.inside.battles.last in
-    rw (← c.self.view_is) (shown_same before _ _ _ c.reserve.ensures.clients
+    rw (← c.self.view_is) (shown_same before _ _ _ c.self.inside.told c.reserve.ensures.clients
     (lists_same c.self.inside.clients c.reserve.new.self c.reserve.ensures.same_listings c.reserve.ensures.same_lines))
 
 pub returns-in-Err-done-clause-err : goal.returns-in-Err-done-clause-err
@@ -142,4 +160,5 @@ returns-in-Err-done-clause-err c =
     rw (← c.self.view_is) (λ i. record {
       plain = lobby_of c.self.inside.settings c.self.inside.accounts (clients i) (users_of (same.1 i)) (same.2 i) (same.3 i) c.self.inside.last_client (same.4 i);
       dirty = lists i;
+      told = c.self.inside.told;
     })

@@ -1,10 +1,10 @@
 use Rattle.std.proofs.Common.{◌≡◌, ◌∙◌, ◌+◌, ◌/◌, List, ℕ, ap, length, rules, sym, subst}
-use Rattle.lobby_post.specs.Mail.{AreDue, deliver, plain, wakes_home}
+use Rattle.lobby_post.specs.Mail.{AreDue, bytes_for, deliver, plain, wakes_home}
 use Rattle.lobby_post.specs.Pieces.{pieces_of}
 use Rattle.lobby_post.specs.Posted.{Posted}
 use Rattle.line_words.specs.Table.{ByNumber}
-use Rattle.lobby_post.specs.Weights.{counted_on, weight}
-use Rattle.lobby_post.proofs.Rounds.{counted_twice}
+use Rattle.std.specs.Map.{keys_of}
+use Rattle.lobby_post.specs.Amounts.{bytes_in_all, counted_on}
 use Rattle.lobby_post.specs.Dirty.{IsNewly, line_of}
 use Rattle.lobby_post.proofs.post.Post.deliver.Goals as goal
 
@@ -33,10 +33,6 @@ returns-clause-newly c = λ n home known small.
 
 pub returns-clause-told : goal.returns-clause-told
 returns-clause-told c =
-    let sent = (λ i. pieces_of (c.deref.ensures.value i) (c.deref-2.ensures.value i)) ∙ ap (λ (p : Posted). p.sent) c.self.view_is in
-    let text = ap (λ (p : Posted). p.text) c.self.view_is in
-    let ends : c.len.result ≡ length c.self.inside.text.items = search rules in
-    let pieces : ByNumber (List ℕ) = pieces_of c.deref.result.now c.deref-2.result.now in
     c.deliver-wakes.ensures.told
-    ∙ ap (λ n. counted_on n (weight pieces)) (c.with_printed.ensures ∙ ap (λ n. counted_on c.args.told.now (n / 32)) (ends ∙ text))
-    ∙ counted_twice c.args.told.now (c.args.self.now.text / 32) (weight pieces) ∙ ap (λ ps. counted_on c.args.told.now (c.args.self.now.text / 32 + weight ps)) sent
+    ∙ ap (λ ps. counted_on c.args.told.now (bytes_in_all (bytes_for ps) (keys_of c.args.slots.now)))
+    ((λ i. pieces_of (c.deref.ensures.value i) (c.deref-2.ensures.value i)) ∙ ap (λ (p : Posted). p.sent) c.self.view_is)

@@ -10,7 +10,7 @@ returns c =
     let line : c.len-shared.result ≡ length c.self.inside.text.items = search rules in
     let ends : c.len-self-inside.result ≡ length c.print.new.out.items = search rules in
     written_for_others _ _ c.self.inside.text.items c.print.new.out.items _
-    c.args.line _ _ c.in_ok-print.ensures line ends c.self.invariant.0
+    c.args.line _ _ c.in_ok-print.ensures.items line ends c.self.invariant.0
     ∙ ap (λ (p : Posted). telling p [] (printed_line None c.args.line) (length (printed_line None c.args.line))) c.self.view_is
 
 pub invariant_of-self-2 : goal.invariant_of-self-2
@@ -18,6 +18,6 @@ invariant_of-self-2 c =
     let i = c.self.inside in
     let begins : c.len-shared.result ≡ length i.text.items = search rules in
     let ends : c.len-self-inside.result ≡ length c.print.new.out.items = search rules in
-    let long = ap length c.in_ok-print.ensures ∙ length-append i.text.items _ in
-    let parts = parts_more i.text.items _ _ i.pieces.items i.shares.items c.in_ok-print.ensures c.self.invariant.0 c.self.invariant.3 in
+    let long = ap length c.in_ok-print.ensures.items ∙ length-append i.text.items _ in
+    let parts = parts_more i.text.items _ _ i.pieces.items i.shares.items c.in_ok-print.ensures.items c.self.invariant.0 c.self.invariant.3 in
     (parts.0, omega (arith, ends), omega (arith, begins, long), parts.1, rw c.forget_line.ensures tt)

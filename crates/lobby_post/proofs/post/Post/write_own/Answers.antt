@@ -6,7 +6,7 @@ use Rattle.lobby_post.proofs.post.Post.write_own.Goals as goal
 pub returns : goal.returns
 returns c =
     written_own _ _ c.self.inside.text.items _ c.print.new.out.items _ _ _
-    (c.in_ok-print.ensures ∙ ap (λ line. c.self.inside.text.items ++ line)
+    (c.in_ok-print.ensures.items ∙ ap (λ line. c.self.inside.text.items ++ line)
     (sym (append-nil _))) c.self.invariant.0 c.self.invariant.2 c.self.invariant.1
     ∙ ap (λ (p : Posted). with_own p (c.args.line ∷ [])) c.self.view_is
 
@@ -15,6 +15,6 @@ invariant_of-self-2 c =
     let i = c.self.inside in
     let first = c.self.invariant.1 in
     let within = c.self.invariant.2 in
-    let long = ap length c.in_ok-print.ensures ∙ length-append i.text.items _ in
-    let parts = parts_more i.text.items _ _ i.pieces.items i.shares.items c.in_ok-print.ensures c.self.invariant.0 c.self.invariant.3 in
+    let long = ap length c.in_ok-print.ensures.items ∙ length-append i.text.items _ in
+    let parts = parts_more i.text.items _ _ i.pieces.items i.shares.items c.in_ok-print.ensures.items c.self.invariant.0 c.self.invariant.3 in
     (parts.0, omega (arith, first, long), omega (arith, within, long), parts.1, rw c.forget_line.ensures tt)
