@@ -6,6 +6,7 @@ use lobby_model::Settings;
 use lobby_workers::{Masks, Record, RecordFiles, ServerError};
 use program_help::VERSION;
 use record_lines::{put_account, put_settings};
+use server_log::ShortText;
 use std::alloc::{AllocError, Global};
 use std::fs::{self, OpenOptions};
 use std::io::{self, ErrorKind, Write};
@@ -41,7 +42,11 @@ pub fn new_record<R: Files + AllocGlobal>(
 ) -> Result<Record<R::File>, ProgramError> {
     let mut files = RecordFiles::new(rt.alloc());
     match add_files(rt, record, &mut files) {
-        Ok(()) => Ok(Record { masks, files }),
+        Ok(folder) => Ok(Record {
+            masks,
+            folder,
+            files,
+        }),
         Err(error) => {
             drop(masks);
             drop(files);
@@ -50,11 +55,12 @@ pub fn new_record<R: Files + AllocGlobal>(
     }
 }
 
+/// Makes the folder and the files, and says which folder it is.
 fn add_files<R: Files + AllocGlobal>(
     rt: &R,
     record: &NewRecord<'_>,
     files: &mut RecordFiles<R::File>,
-) -> Result<(), ProgramError> {
+) -> Result<ShortText, ProgramError> {
     let folder = new_folder(rt, record.folder)?;
     let text = settings_text(rt.alloc(), record.settings)?;
     write_file(rt, folder.as_str(), "settings.toml", &text)?;
@@ -73,7 +79,7 @@ fn add_files<R: Files + AllocGlobal>(
         }
     }
     files.keep_spare(spare);
-    Ok(())
+    Ok(ShortText::of(folder.as_bytes()))
 }
 
 /// A file of settings that sets a lobby up to these, and says which server wrote it.

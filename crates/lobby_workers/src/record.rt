@@ -15,6 +15,7 @@ pub use end::End;
 pub use files::RecordFiles;
 pub use queue::RecordQueue;
 use record_lines::Masks;
+use server_log::ShortText;
 pub use recorder::Recorder;
 
 /// A record that begins.
@@ -22,6 +23,8 @@ pub use recorder::Recorder;
 pub struct Record<W> {
     /// What is left out of it.
     pub masks: Masks,
+    /// The folder in which it is written, as operators are told it.
+    pub folder: ShortText,
     /// Where it is written.
     pub files: RecordFiles<W>,
 }

@@ -147,7 +147,7 @@ fn new_client<R: Wait>(
     match opened {
         Ok(number) => {
             let client = Client {
-                conn: Conn::new(alloc, number),
+                conn: Conn::new(alloc, number, [10, 0, 0, 1]),
                 link,
                 is_shut: false,
             };

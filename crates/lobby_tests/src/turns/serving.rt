@@ -24,7 +24,7 @@ pub fn serve_client<R: Wait, L: Link, G: Gate>(
     let mut held = desk.take(rt, pass);
     let client = held.open([10, 0, 0, 1], home).unwrap_or(0);
     let pass = held.give(rt, desk);
-    let mut conn = Conn::new(alloc, client);
+    let mut conn = Conn::new(alloc, client, [10, 0, 0, 1]);
     let (pass, state) = take_turns(rt, desk, pass, &mut conn, link, gate, 1, None);
     drop(pass);
     drop(conn);

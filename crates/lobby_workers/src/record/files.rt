@@ -1,6 +1,7 @@
 //! The files of a record, one for each worker.
 
 use crate::record::end::End;
+use crate::record::lines::Lines;
 use std::alloc::{AllocError, Global};
 use std::fs::OpenFile;
 use std::io::{self, ErrorKind, Write};
@@ -55,6 +56,8 @@ pub struct RecordFiles<W> {
     files: Vec<RecordFile<W>>,
     // what only takes up room on the disk
     spare: Option<W>,
+    // the last place of which all was written
+    last_place: Option<u64>,
 }
 
 impl<W: Write + OpenFile + Drop> RecordFiles<W> {
@@ -64,6 +67,7 @@ impl<W: Write + OpenFile + Drop> RecordFiles<W> {
             alloc,
             files: Vec::new(alloc),
             spare: None,
+            last_place: None,
         }
     }
 
@@ -86,13 +90,23 @@ impl<W: Write + OpenFile + Drop> RecordFiles<W> {
     }
 
     /// Writes whole lines to the file of a worker. One without a file is passed over.
-    pub(crate) fn write(&mut self, worker: usize, lines: Vec<u8>) -> Result<(), End> {
+    pub(crate) fn write(&mut self, worker: usize, lines: Lines) -> Result<(), End> {
         let Some(file) = self.files.get_mut(worker) else {
             drop(lines);
             return Ok(());
         };
-        file.piece = lines;
-        file.write().map_err(|_| End::Disk)
+        let last_place = lines.last_place;
+        file.piece = lines.bytes;
+        if file.write().is_err() {
+            return Err(End::Disk);
+        }
+        self.last_place = self.last_place.max(last_place);
+        Ok(())
+    }
+
+    /// The last place of which all was written. None where there is none.
+    pub(crate) fn last_place(&self) -> Option<u64> {
+        self.last_place
     }
 
     /// Writes the last line of each file.

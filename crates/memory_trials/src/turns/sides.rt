@@ -44,7 +44,7 @@ impl Side {
         match link.with_place(told.len()) {
             Ok(link) => Ok(Side {
                 alloc,
-                conn: Conn::new(alloc, client),
+                conn: Conn::new(alloc, client, [10, 0, 0, 1]),
                 link,
                 told,
             }),
