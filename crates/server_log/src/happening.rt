@@ -1,7 +1,8 @@
 //! What operators are told of.
 
 ghost use Rattle.std.specs.Prelude.{◌≡◌};
-ghost use Rattle.server_log.specs.Fields.{cause_word, denial_word, record_end_word, refusal_word, reserve_word, word_of};
+ghost use Rattle.server_log.specs.Fields.{cause_word, denial_word, record_end_word, refusal_word, reserve_word};
+ghost use Rattle.server_log.specs.Fields.{word_of};
 
 use crate::text::ShortText;
 
