@@ -91,13 +91,7 @@ impl Visit {
     }
 
     /// A login under this name was answered so.
-    fn note_login<G: Gate>(
-        &mut self,
-        client: u64,
-        gate: &G,
-        name: ShortText,
-        answer: LoginAnswer,
-    ) {
+    fn note_login<G: Gate>(&mut self, client: u64, gate: &G, name: ShortText, answer: LoginAnswer) {
         let ip = self.ip;
         let Some(reason) = denial_of(answer) else {
             self.user = NameBuf::of(name.as_slice());

@@ -36,6 +36,7 @@ let_in_named name word accounts account h = at (account_of name accounts) refl h
   same : (a : Account) (b : Bool) → (if b then Ok a else Err BadPassword) ≡ Ok account → a ≡ account
   same a true is = cc
   same a false is = absurd (cc)
+
   at : (found : Option Account) → account_of name accounts ≡ found
       → option_map_or (λ a. if bytes_eq a.password word then Ok a else Err BadPassword) found (Err NoAccount) ≡ Ok account → name ≡ account.name
   at None is h = absurd (cc)

@@ -171,9 +171,7 @@ impl Lobby {
         };
         let maps = &self.parts.maps;
         let me = maps.issuer(client)?;
-        Some(rules::login_answer(
-            maps, client, me, user_name, password,
-        ))
+        Some(rules::login_answer(maps, client, me, user_name, password))
     }
 
     /// A client's connection is closed: it is removed, and its user, if it was logged in, is logged

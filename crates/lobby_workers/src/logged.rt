@@ -98,11 +98,7 @@ struct Writing<'a, E> {
 }
 
 /// Runs no server, since the thread that writes could not be made.
-fn give_up<I, O, W: Drop>(
-    service: Service,
-    ends: Ends<'_, I, O>,
-    record: Option<Record<W>>,
-) -> u8
+fn give_up<I, O, W: Drop>(service: Service, ends: Ends<'_, I, O>, record: Option<Record<W>>) -> u8
     ensures { IsEnd result }
 {
     drop(service);

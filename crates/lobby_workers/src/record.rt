@@ -15,8 +15,8 @@ pub use end::End;
 pub use files::RecordFiles;
 pub use queue::RecordQueue;
 use record_lines::Masks;
-use server_log::ShortText;
 pub use recorder::Recorder;
+use server_log::ShortText;
 
 /// A record that begins.
 #[derive(Drop)]

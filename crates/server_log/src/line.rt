@@ -128,11 +128,7 @@ fn put_denied_more(
 }
 
 /// Appends why a connection was refused, and from where it came if that is known.
-fn put_refused(
-    out: &mut Vec<u8>,
-    reason: Refusal,
-    ip: Option<[u8; 4]>,
-) -> Result<(), AllocError>
+fn put_refused(out: &mut Vec<u8>, reason: Refusal, ip: Option<[u8; 4]>) -> Result<(), AllocError>
     ensures { OnOk result (out.new.items
         ≡ out.old.items ++ flat_map field ((codes "reason", refusal_word reason) ∷ ip_fields ip)) }
 {
