@@ -16,18 +16,20 @@ use Rattle.lobby_model.specs.Texts.{user_is_in}
 use Rattle.lobby_model.specs.Outcome.{done, refuse_if}
 use Rattle.lobby_model.specs.Sessions.{log_in, logs_in, user_of}
 use Rattle.lobby_model.specs.Commands.{answer}
-use Rattle.lobby_machine.specs.declared.login_answer.LoginAnswer.TheVariants.{LetIn, Invalid, InUse, Again}
-use Rattle.lobby_machine.specs.Logins.{AnswersWith, LogsIn}
-use Rattle.lobby_machine.proofs.Spoken.{name_taken, not_let_in}
+use Rattle.lobby_machine.specs.declared.login_answer.LoginAnswer.TheVariants.{LetIn}
+use Rattle.lobby_machine.specs.Logins.{AnswersWith}
 
 -- the account that is found for a name has that name
 found_named : (name : List ℕ) (accounts : List Account) (account : Account) → account_of name accounts ≡ Some account
     → name ≡ account.name
 found_named name [] account h = absurd (cc)
-found_named name (a ∷ accounts) account h = at (bytes_eq name a.name) refl h where
-  at : (b : Bool) → bytes_eq name a.name ≡ b → (if b then Some a else account_of name accounts) ≡ Some account → name ≡ account.name
-  at true same is = (bytes_eq-Decides name a.name).0 same ∙ ap (λ (o : Account). o.name) (cc)
-  at false other is = found_named name accounts account is
+found_named name (a ∷ accounts) account h = at (bytes_eq name a.name) refl (λ is. found_named name accounts account is) h where
+  at : (b : Bool) → bytes_eq name a.name ≡ b → (account_of name accounts ≡ Some account → name ≡ account.name)
+      → (if b then Some a else account_of name accounts) ≡ Some account → name ≡ account.name
+  at true same rest is =
+      let found : a ≡ account = cc in
+      (bytes_eq-Decides name a.name).0 same ∙ ap (λ (o : Account). o.name) found
+  at false other rest is = rest is
 
 -- and so has the one that is let in
 let_in_named : (name word : List ℕ) (accounts : List Account) (account : Account) → login accounts name word ≡ Ok account
@@ -42,32 +44,15 @@ let_in_named name word accounts account h = at (account_of name accounts) refl h
   at None is h = absurd (cc)
   at (Some a) is h = found_named name accounts account (is ∙ ap Some (same a (bytes_eq a.password word) h))
 
-module _ (s : State) (c : ℕ) (name word : List ℕ) where
-  -- by one who is logged in
-  pub again : (me : List ℕ) → name_of s c ≡ Some me → AnswersWith s c name word Again
-  again me is = λ cpu local_ip lobby authorises.
-      ap (λ o. answer s c o (command.Login name word cpu local_ip lobby authorises)) is
-
-  -- by one who is not
-  pub invalid : name_of s c ≡ None → is_ok (login s.accounts name word) ≡ false → AnswersWith s c name word Invalid
-  invalid nobody none = λ cpu local_ip lobby authorises.
-      ap (λ o. answer s c o (command.Login name word cpu local_ip lobby authorises)) nobody
-      ∙ not_let_in s c cpu authorises (login s.accounts name word) none
-
-  pub in_use : (account : Account) → name_of s c ≡ None → login s.accounts name word ≡ Ok account
-      → is_some (at_name s.users account.name) ≡ true → AnswersWith s c name word InUse
-  in_use account nobody is there = λ cpu local_ip lobby authorises.
-      ap (λ o. answer s c o (command.Login name word cpu local_ip lobby authorises)) nobody
-      ∙ name_taken s c cpu authorises (login s.accounts name word) account is there
-
-  pub let_in : (account : Account) → name_of s c ≡ None → login s.accounts name word ≡ Ok account
-      → is_some (at_name s.users account.name) ≡ false → AnswersWith s c name word LetIn
-  let_in account nobody is free = λ cpu local_ip lobby authorises. record {
-    name = name;
-    user = user_of account cpu authorises;
-    asked = refl;
-    is = ap (λ o. answer s c o (command.Login name word cpu local_ip lobby authorises)) nobody
-        ∙ ap (log_in s c cpu authorises) is
-        ∙ ap (λ b. refuse_if b (reply.Denied user_is_in) (done (logs_in c account.name (user_of account cpu authorises) s))) free
-        ∙ ap (λ n. done (logs_in c n (user_of account cpu authorises) s)) (sym (let_in_named name word s.accounts account is));
-  }
+pub let_in : (s : State) (c : ℕ) (name word : List ℕ) (account : Account) → name_of s c ≡ None
+    → login s.accounts name word ≡ Ok account → is_some (at_name s.users account.name) ≡ false
+    → AnswersWith s c name word LetIn
+let_in s c name word account nobody is free = λ cpu local_ip lobby authorises. record {
+  name = name;
+  user = user_of account cpu authorises;
+  asked = refl;
+  is = ap (λ o. answer s c o (command.Login name word cpu local_ip lobby authorises)) nobody
+      ∙ ap (log_in s c cpu authorises) is
+      ∙ ap (λ b. refuse_if b (reply.Denied user_is_in) (done (logs_in c account.name (user_of account cpu authorises) s))) free
+      ∙ ap (λ n. done (logs_in c n (user_of account cpu authorises) s)) (sym (let_in_named name word s.accounts account is));
+}

@@ -170,7 +170,9 @@ impl Lobby {
             return None;
         };
         let maps = &self.parts.maps;
-        let me = maps.issuer(client)?;
+        let Some(me) = maps.issuer(client) else {
+            return None;
+        };
         Some(rules::login_answer(maps, client, me, user_name, password))
     }
 
