@@ -1,5 +1,5 @@
-//! What the log tells of logins: who is logged in at a connection, and how that ends. How a login was answered the lobby
-//! itself says.
+//! What the log tells of logins: who is logged in at a connection, and how that ends. How a login was answered the
+//! lobby itself says.
 
 use crate::gate::Gate;
 use command_grammar::Command;

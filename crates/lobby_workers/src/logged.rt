@@ -30,9 +30,9 @@ pub struct Log {
     pub started: Started,
 }
 
-/// Runs a server with a record, if there is one, as [`run_recorded`] does, and tells operators on `errors` what happens,
-/// a line each, from a thread of its own. Lines are written whole and in their order. No worker waits for one: what
-/// comes while 1,024 wait is lost, and its number is told.
+/// Runs a server with a record, if there is one, as [`run_recorded`] does, and tells operators on `errors` what
+/// happens, a line each, from a thread of its own. Lines are written whole and in their order. No worker waits for one:
+/// what comes while 1,024 wait is lost, and its number is told.
 ///
 /// A write to `errors` that fails by `WouldBlock` is tried again at once, so it has to wait a while before it does; any
 /// other that fails, behind what happens next. Once the server has ended, what a try does not write is given up; else
