@@ -105,7 +105,7 @@ pub enum Happening {
     RecordStarted {
         folder: ShortText,
     },
-    /// The record has ended, behind the event of this place in the history if it has one.
+    /// The record has ended. This is the last place of the history that is known to be written, if there is one.
     RecordEnded {
         reason: RecordEnd,
         place: Option<u64>,

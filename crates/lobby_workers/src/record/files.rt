@@ -56,7 +56,7 @@ pub struct RecordFiles<W> {
     files: Vec<RecordFile<W>>,
     // what only takes up room on the disk
     spare: Option<W>,
-    // the last place of which all was written
+    // the last place that is known to be written
     last_place: Option<u64>,
 }
 
@@ -104,7 +104,7 @@ impl<W: Write + OpenFile + Drop> RecordFiles<W> {
         Ok(())
     }
 
-    /// The last place of which all was written. None where there is none.
+    /// The last place that is known to be written. None where there is none. A file that failed may have more.
     pub(crate) fn last_place(&self) -> Option<u64> {
         self.last_place
     }
