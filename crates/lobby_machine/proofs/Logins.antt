@@ -1,12 +1,11 @@
 -- What a login comes to.
-use Rattle.std.proofs.Common.{◌≡◌, ℕ, ℤ, List, [], ◌∷◌, refl, sym, ap, ◌∙◌, true, false}
-use Rattle.std.specs.Prelude.{Bool, Option, Some, None, Result, Ok, Err, is_ok, is_some, if◌then◌else◌, find}
+use Rattle.std.proofs.Common.{◌≡◌, ℕ, List, [], ◌∷◌, refl, sym, ap, ◌∙◌, true, false}
+use Rattle.std.specs.Prelude.{Bool, Option, Some, None, Ok, Err, is_some, if◌then◌else◌}
 use Rattle.std.specs.Option.{option_map_or}
 use Rattle.std.specs.Str.{bytes_eq}
 use Rattle.std.proofs.lemmas.Slice.Eq.{bytes_eq-Decides}
 use Rattle.account_book.specs.Account.{Account}
 use Rattle.account_book.specs.Book.{account_of, login}
-use Rattle.account_book.specs.declared.error.LoginFault.{LoginFault}
 use Rattle.account_book.specs.declared.error.LoginFault.TheVariants.{NoAccount, BadPassword}
 use Rattle.command_grammar.specs.declared.command.Command.TheVariants as command
 use Rattle.reply_kinds.specs.declared.Reply.TheVariants as reply
