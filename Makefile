@@ -19,7 +19,7 @@ setup: ## looks at the files of settings and accounts, and says what is wrong
 	@tools/run.sh lobby_check $(abspath $(SETTINGS)) $(abspath $(ACCOUNTS))
 
 hash: ## reads a password and prints the word that stands for it in a file of accounts
-	@tools/run.sh lobby_main hash
+	@program=$$(tools/program.sh lobby_main) && LOBBY_MAIN=$$program operator/lobby_account.py hash
 
 view: ## reads the bytes that a client was sent, and shows what it knows then
 	@tools/run.sh view_show

@@ -293,6 +293,21 @@ def check_terminal():
                   and told in shown, shown)
 
 
+def check_hash():
+    with Room(ONE) as room:
+        ran = subprocess.run([sys.executable, TOOL, "hash"], input=b"secret\n", capture_output=True, timeout=120, check=False)
+        tells("hash prints the word of a password", (ran.returncode, ran.stdout) == (0, f"{word_of('secret')}\n".encode()),
+              ran.stdout + ran.stderr)
+        main, terminal = pty.openpty()
+        ran = subprocess.run([os.environ["LOBBY_MAIN"], "hash"], stdin=terminal, capture_output=True, timeout=120, check=False)
+        os.close(terminal)
+        os.close(main)
+        tells("lobby_main reads no password from a terminal",
+              (ran.returncode, ran.stdout, ran.stderr) == (2, b"", b"a terminal would show the password: use lobby_account hash\n"),
+              ran.stdout + ran.stderr)
+        tells("and that changes no file", room.file.read_bytes() == room.old)
+
+
 def slow(room, what="sleep 30", first=""):
     """The environment in which lobby_check, called for the new file, first does something else."""
     script = room.path / "slow"
@@ -436,7 +451,7 @@ def main():
     with tempfile.TemporaryDirectory(prefix="lobby-accounts-") as programs:
         for name in "lobby_check", "lobby_main":
             shutil.copy(os.environ[name.upper()], programs)
-        for it in (check_add, check_refused_adds, check_changes, check_format, check_list, check_broken, check_terminal,
+        for it in (check_add, check_refused_adds, check_changes, check_format, check_list, check_broken, check_terminal, check_hash,
                    check_killed, check_two,
                    check_full_disk, check_restart, check_server):
             it()

@@ -1,7 +1,7 @@
 #!/usr/bin/env python3
 """log.py [PROGRAM [CHECK..]]: what the server as the gate built it, or another build of it, tells operators on standard error: each
-happening once, in its form; names that try to forge a line; each level; and that clients are served, and the server stops, where standard
-error is closed or nobody reads it. What is wanted stands here by hand."""
+happening once, in its form; names that try to forge a line; one who is denied again and again; each level; and that clients are served, and
+the server stops, where standard error is closed or nobody reads it. What is wanted stands here by hand."""
 import contextlib
 import ctypes
 import fcntl
@@ -77,18 +77,18 @@ def each_happening(workers):
     with Server(workers, [ANNA, BERT], log="all") as server:
         wanted = [started(server, 2)]
         anna = logged_in(server, ANNA, [])
-        wanted += ["login name=Anna client=1"]
+        wanted += ["login name=Anna client=1 ip=127.0.0.1"]
         bert = greeted(server)
         denied(bert, "Nobody")
         denied(bert, "Anna", "DENIED User is already logged in\n")
         denied(anna, "Bert", "DENIED Already logged in\n")
-        wanted += ["denied name=Nobody reason=invalid client=2", "denied name=Anna reason=in_use client=2",
-                   "denied name=Bert reason=again client=1"]
+        wanted += ["denied name=Nobody reason=invalid client=2 ip=127.0.0.1", "denied name=Anna reason=in_use client=2 ip=127.0.0.1",
+                   "denied name=Bert reason=again client=1 ip=127.0.0.1"]
         # With an id, and two in one piece.
         bert.send(f"#7 LOGIN x {WORD} 0 * C\n#8 LOGIN Bert {WORD} 0 * C\n")
         bert.expect(f"#7 {INVALID}#8 ACCEPTED Bert\n#8 {ANNA.arrival()}#8 {BERT.arrival()}#8 LOGININFOEND\n")
         anna.expect(BERT.arrival())
-        wanted += ["denied name=x reason=invalid client=2", "login name=Bert client=2"]
+        wanted += ["denied name=x reason=invalid client=2 ip=127.0.0.1", "login name=Bert client=2 ip=127.0.0.1"]
         same(lines_of(server, len(wanted)), wanted)
         leavers = [("exit", lambda it: it.send("EXIT bye\n")), ("closed", Client.close), ("line_too_long", lambda it: it.send("x" * 8_193)),
                    ("line_too_long", lambda it: it.send("x" * 8_193 + "\nEXIT\n")), ("exit", lambda it: it.send("EXIT\n" + "x" * 8_193)),
@@ -100,7 +100,7 @@ def each_happening(workers):
             same(lines_of(server, len(wanted)), wanted)
             bert = logged_in(server, BERT, [ANNA])
             anna.expect(BERT.arrival())
-            wanted += [f"login name=Bert client={number + 1}"]
+            wanted += [f"login name=Bert client={number + 1} ip=127.0.0.1"]
         # Of one who never logged in nothing is told.
         for _, leave in leavers:
             leave(greeted(server))
@@ -126,7 +126,7 @@ def too_slow(workers):
                 anna.receive()
             if gone in anna.heard:
                 break
-        wanted = [started(server, 2, 65_536), "login name=Anna client=1", "login name=Bert client=2", "logout name=Bert cause=too_slow client=2"]
+        wanted = [started(server, 2, 65_536), "login name=Anna client=1 ip=127.0.0.1", "login name=Bert client=2 ip=127.0.0.1", "logout name=Bert cause=too_slow client=2"]
         same(lines_of(server, 4), wanted)
         stop(server, anna, slow)
         whole(server, wanted, [("Anna", 1)])
@@ -138,7 +138,7 @@ def cut_by_its_login(workers):
         client = greeted(server)
         client.send(ANNA.login())
         client.expect_end()
-        wanted = [started(server, 1, 65_536), "login name=Anna client=1", "logout name=Anna cause=too_slow client=1"]
+        wanted = [started(server, 1, 65_536), "login name=Anna client=1 ip=127.0.0.1", "logout name=Anna cause=too_slow client=1"]
         same(lines_of(server, 3), wanted)
         client.close()
 
@@ -149,7 +149,7 @@ def cut_before_its_exit(workers):
         with Server(workers, [ANNA, BERT], "outbox_limit = 65536\n", log="all") as server:
             wanted = [started(server, 2, 65_536)]
             annas = [logged_in(server, ANNA, []) for _ in range(others)]
-            wanted += ["login name=Anna client=1"] * others
+            wanted += ["login name=Anna client=1 ip=127.0.0.1"] * others
             bert = logged_in(server, BERT, [ANNA] * others)
             for anna in annas:
                 anna.expect(BERT.arrival())
@@ -157,7 +157,7 @@ def cut_before_its_exit(workers):
             server.process.send_signal(signal.SIGSTOP)
             bert.send(f"SAYPRIVATE Bert {'x' * 8_000}\n" * 5 + "EXIT\n")
             server.process.send_signal(signal.SIGCONT)
-            wanted += [f"login name=Bert client={1 + others}", f"logout name=Bert cause=too_slow client={1 + others}"]
+            wanted += [f"login name=Bert client={1 + others} ip=127.0.0.1", f"logout name=Bert cause=too_slow client={1 + others}"]
             same(lines_of(server, len(wanted)), wanted)
             stop(server, bert, *annas)
             whole(server, wanted, [("Anna", 1)] * others)
@@ -170,7 +170,7 @@ def many_at_a_stop(workers):
         clients = [greeted(server) for _ in users]
         for client, user in zip(clients, users):
             client.send(user.login())
-        logins = {f"login name=u{number} client={number}" for number in range(1, 401)}
+        logins = {f"login name=u{number} client={number} ip=127.0.0.1" for number in range(1, 401)}
         same(set(lines_of(server, 401)[1:]), logins)
         clients[0].send("EXIT\n")
         lines_of(server, 402)
@@ -191,17 +191,75 @@ def forged(workers):
     names = [b"Anna%0Alogin", b"x=y", b"\x1b[31mred\x07", bytes(it for it in range(1, 256) if it not in (9, 10, 13, 32)), b"\x00", b"n" * 64,
              b"n" * 65, b"n" * 8_000, "Ünï".encode(), b"name=Anna", b"%", b"\x0b\x0c\x85\xe2\x80\xa8"]
     with Server(workers, [ANNA], log=None) as server:
-        client = greeted(server)
         wanted = [started(server, 1)]
-        for name in names:
+        for number, name in enumerate(names, 1):
+            client = greeted(server)
             client.send(b"LOGIN " + name + f" {WORD} 0 * Checks 1.0\n".encode())
             client.expect(INVALID)
-            wanted += [f"denied name={harmless(name)} reason=invalid client=1"]
+            client.close()
+            wanted += [f"denied name={harmless(name)} reason=invalid client={number} ip=127.0.0.1"]
         same(lines_of(server, len(wanted)), wanted)
         told = server.told()
-        if not re.fullmatch(r"(?:[ -~]*\n)*", told) or "%0Alogin" in told or wanted[1] != "denied name=Anna%250Alogin reason=invalid client=1":
+        if not re.fullmatch(r"(?:[ -~]*\n)*", told) or "%0Alogin" in told or wanted[1] != "denied name=Anna%250Alogin reason=invalid client=1 ip=127.0.0.1":
             raise Difference(f"a byte that is not harmless: {told!r}")
-        client.close()
+
+
+def again_and_again(workers):
+    """Of one who is denied again and again three denials are told, and how many more they were once it has gone: so of one who logs in, and
+    of one who never does. One who is denied three times has no such line."""
+    count = 20_000
+    with Server(workers, [ANNA], log="important") as server:
+        wanted = [started(server, 1)]
+        anna, eve = logged_in(server, ANNA, []), greeted(server)
+        for client, number, reason, answer in ((anna, 1, "again", "DENIED Already logged in\n"), (eve, 2, "invalid", INVALID)):
+            client.send(f"LOGIN x {WORD} 0 * C\n" * count)
+            client.expect(answer * count)
+            wanted += [f"denied name=x reason={reason} client={number} ip=127.0.0.1"] * 3
+            same(lines_of(server, len(wanted)), wanted)
+        eve.close()
+        wanted += [f"denied_more count={count - 3} client=2 ip=127.0.0.1"]
+        same(lines_of(server, len(wanted)), wanted)
+        thrice = greeted(server)
+        for _ in range(3):
+            denied(thrice, "x")
+        thrice.close()
+        wanted += ["denied name=x reason=invalid client=3 ip=127.0.0.1"] * 3
+        same(lines_of(server, len(wanted)), wanted)
+        stop(server, anna)
+        same(server.told().splitlines(), wanted + [f"denied_more count={count - 3} client=1 ip=127.0.0.1", *stopped(server)])
+
+
+def fronted(workers):
+    """Behind a front the address is the client's; a front that says no such line is told with its own, and one that says nothing is not."""
+    with Server(workers, [ANNA], f'proxies = ["{ADDRESS}"]\n', log="all") as server:
+        wanted = [started(server, 1)]
+        anna = Client(server)
+        anna.send("PROXY TCP4 192.0.2.7 192.0.2.1 4000 8200\r\n" + f"LOGIN x {WORD} 0 * C\n" + ANNA.login())
+        anna.expect(GREETING + f"{INVALID}ACCEPTED Anna\n{ANNA.arrival()}LOGININFOEND\n".encode())
+        wanted += ["denied name=x reason=invalid client=1 ip=192.0.2.7", "login name=Anna client=1 ip=192.0.2.7"]
+        same(lines_of(server, len(wanted)), wanted)
+        Client(server).close()
+        for line in ("LOGIN x y 0 * C\n", "PROXY TCP4 192.0.2.7\r\n"):
+            other = Client(server)
+            other.send(line)
+            # The server may close it before it has read all.
+            with contextlib.suppress(ConnectionResetError):
+                other.expect_end()
+            wanted += ["refused reason=front ip=127.0.0.1"]
+            same(lines_of(server, len(wanted)), wanted)
+        stop(server, anna)
+        whole(server, wanted, [("Anna", 1)])
+
+
+def recorded(workers):
+    """A record's folder is told, and at the stop that it ends, with the last place that it has."""
+    with tempfile.TemporaryDirectory(prefix="lobby-check-") as folder:
+        with Server(workers, [ANNA], f'record = "{folder}"\n', log="important") as server:
+            anna = logged_in(server, ANNA, [])
+            wanted = [started(server, 1), f"record_started folder={harmless(f'{folder}/1'.encode())}"]
+            same(lines_of(server, 2), wanted)
+            stop(server, anna)
+            same(server.told().splitlines(), wanted + stopped(server) + [f"record_ended reason=stop place={sum(server.counts) - 1}"])
 
 
 def levels(workers):
@@ -220,7 +278,7 @@ def levels(workers):
             bert.expect_end()
             rest = [logged_in(server, ANNA, []), other]
             stop(server, anna, bert, *rest)
-            wanted = [started(server, 2), "denied name=x reason=invalid client=3", "logout name=Bert cause=line_too_long client=2", *stopped(server)]
+            wanted = [started(server, 2), "denied name=x reason=invalid client=3 ip=127.0.0.1", "logout name=Bert cause=line_too_long client=2", *stopped(server)]
             same(server.told().splitlines(), [] if log == "none" else wanted)
 
 
@@ -251,8 +309,8 @@ def refused(workers):
         for _ in range(2):
             Client(server).expect_end()
         # An inbox may have been full meanwhile.
-        told = [it for it in lines_of(server, count + 2) if it != "refused reason=busy"]
-        same(told, [started(server, 0), *["refused reason=full"] * 2])
+        told = [it for it in lines_of(server, count + 2) if it != "refused reason=busy ip=127.0.0.1"]
+        same(told, [started(server, 0), *["refused reason=full ip=127.0.0.1"] * 2])
         stop(server, *clients)
 
 
@@ -267,7 +325,7 @@ def no_memory(workers):
             # A channel takes memory, which a PING need not.
             anna.send("JOIN main\n")
             told = lines_of(server, 3)
-            same(told, [started(server, 1), "login name=Anna client=1", "memory_refused worker=0"])
+            same(told, [started(server, 1), "login name=Anna client=1 ip=127.0.0.1", "memory_refused worker=0"])
             time.sleep(0.1)
             same(server.told().splitlines(), told)
             switch.unlink()
@@ -336,7 +394,7 @@ def busy(workers):
     with Server(workers, [], log="all", files=4_096) as server, contextlib.ExitStack() as crowd:
         with held(server):
             clients = [crowd.enter_context(contextlib.closing(Client(server))) for _ in range(workers * (INBOX + 3))]
-            wanted = [started(server, 0)] + ["refused reason=busy"] * 3
+            wanted = [started(server, 0)] + ["refused reason=busy ip=127.0.0.1"] * 3
             same(lines_of(server, 4), wanted)
             for client in clients[workers - 1 :: workers][INBOX:]:
                 client.expect_end()
@@ -351,15 +409,18 @@ def closed(workers):
     for error in ("2>&-", "2> /dev/full"):
         with Shell(workers, error) as server:
             anna = logged_in(server, ANNA, [])
-            denied_often(anna, 2 * WAITING)
+            denied_often(server, 2 * WAITING)
             anna.expect_nothing_more()
             stop(server, anna)
 
 
-def denied_often(client, count):
-    """One who is logged in logs in again and again."""
-    client.send(f"LOGIN x {WORD} 0 * C\n" * count)
-    client.expect("DENIED Already logged in\n" * count)
+def denied_often(server, count):
+    """So many logins are denied, each of which is told: three of a client."""
+    for begun in range(0, count, 3):
+        client, times = greeted(server), min(3, count - begun)
+        client.send(f"LOGIN x {WORD} 0 * C\n" * times)
+        client.expect(INVALID * times)
+        client.close()
 
 
 class Shell(Server):
@@ -386,7 +447,7 @@ def unread(workers):
     count = 4 * WAITING
     with Server(workers, [ANNA], log="all", errors=os.fdopen(writer, "wb", buffering=0)) as server:
         anna = logged_in(server, ANNA, [])
-        denied_often(anna, count)
+        denied_often(server, count)
         # The server has tried to write, and waited for as long as it does at its end.
         time.sleep(1.5)
         server.errors.close()
@@ -405,9 +466,9 @@ def unread(workers):
         takes.join()
         lines = told.decode().splitlines()
         lost = [int(it[1]) for line in lines if (it := re.fullmatch("log lost=([0-9]+)", line))]
-        kept = lines.count("denied name=x reason=again client=1")
-        rest = [it for it in lines if it != "denied name=x reason=again client=1" and not it.startswith("log lost=")]
-        same(rest, [started(server, 1), "login name=Anna client=1", "logout name=Anna cause=exit client=1", *stopped(server)])
+        kept = sum(re.fullmatch("denied name=x reason=invalid client=[0-9]+ ip=127.0.0.1", it) is not None for it in lines)
+        rest = [it for it in lines if not it.startswith(("denied name=x ", "log lost="))]
+        same(rest, [started(server, 1), "login name=Anna client=1 ip=127.0.0.1", "logout name=Anna cause=exit client=1", *stopped(server)])
         # Where the thread that writes came to nothing, the two lines before these wait too.
         if not lost or kept + sum(lost) != count or not WAITING - 2 <= kept < 2 * WAITING:
             raise Difference(f"of {count} lines {kept} came, and {lost} were told as lost")
@@ -422,7 +483,7 @@ def never_read(workers):
             os.write(writer, b"x" * PIPE)
         with Server(workers, [ANNA], log="all", errors=os.fdopen(writer, "wb", buffering=0)) as server:
             anna = logged_in(server, ANNA, [])
-            denied_often(anna, count)
+            denied_often(server, count)
             begun = time.monotonic()
             stop(server, anna)
             if time.monotonic() - begun > LATEST:
@@ -437,8 +498,8 @@ def take(reader, told):
     os.close(reader)
 
 
-CHECKS = [each_happening, too_slow, cut_by_its_login, cut_before_its_exit, many_at_a_stop, forged, levels, refused, not_accepted, busy,
-          no_memory, closed, unread, never_read]
+CHECKS = [each_happening, too_slow, cut_by_its_login, cut_before_its_exit, many_at_a_stop, forged, again_and_again, fronted, recorded, levels,
+          refused, not_accepted, busy, no_memory, closed, unread, never_read]
 
 
 def main():

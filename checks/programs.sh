@@ -1,7 +1,7 @@
 #!/usr/bin/env bash
 # Runs the programs, as the gate built them, with good and bad arguments and inputs, and compares what they print, what they
 # tell on standard error and their exit status. The files in examples/ are read by serve.sh. Each program says its version, which is
-# the newest numbered one of CHANGELOG, and how it is used. Then has lobby_play play a script with more and more memory.
+# the newest numbered one of CHANGELOG, or of a tree behind that its own, and how it is used. Then has lobby_play play a script with more and more memory.
 set -euo pipefail
 cd "$(dirname "$0")/.."
 play=crates/lobby_play/out/lobby_play
@@ -48,6 +48,10 @@ tells() {
     echo "$1 --help does not begin with its usage"
     failed=$((failed + 1))
 }
+cp "$main" "$room/lobby_main"
+packaging/deb.py --mark "$room/lobby_main"
+packaging/deb.py --mark "$room/lobby_main"
+expect 0 "lobby_main $(packaging/deb.py --version)\n" '' '' "$room/lobby_main" --version
 tells lobby_main 'lobby_main serve SETTINGS ACCOUNTS'
 tells lobby_play 'lobby_play < SCRIPT'
 tells lobby_check 'lobby_check SETTINGS ACCOUNTS'

@@ -3,9 +3,10 @@
 is put for it then. Some users say lines of all commands, good and bad ones, at a given rate, and now and then one leaves, by EXIT,
 a close or a reset, and comes again.
 
-    checks/record.py                                     what the gate runs on its programs: the first three, short
+    checks/record.py                                     what the gate runs on its programs: the first four, short
     checks/record.py long [WORKERS [SECONDS [USERS [RATE [SEED]]]]]
     checks/record.py killed [TIMES [WORKERS]]            the server is killed at a random time
+    checks/record.py files                               numbers and modes, and with standard descriptors closed
     checks/record.py faults                              no folder, no permission, a full disk, a folder that goes
     checks/record.py cost [RUNS [SECONDS [USERS [RATE]]]]  what the server takes of processors with a record and without, in turn
 
@@ -286,12 +287,14 @@ def small_disk():
             subprocess.run(["umount", folder], check=True)
 
 
-def goes_on(folder, workers, why, spoil=lambda record: None):
-    """The record ends, and clients notice nothing. Gives the last lines of its files."""
+def goes_on(folder, workers, why, spoil=lambda record: None, line=None):
+    """The record ends, and clients notice nothing. Gives the last lines of its files. With a line the users say that alone."""
     owners = [Owner(f"User{it:03}", it) for it in range(20)]
     with Server(workers, owners, settings(folder)) as server:
         session = Session(server, 20, 1)
-        session.talk_at(1_000, 1)
+        if line:
+            session.speaker.line = lambda: line
+        session.talk_at(1_000 if line is None else 20, 1)
         spoil(Path(folder) / "1")
         session.talk_at(1_000, 4)
         greeted(server).expect_nothing_more()
@@ -303,6 +306,61 @@ def goes_on(folder, workers, why, spoil=lambda record: None):
     if record.exists():
         compare(session, record, False)
     return ends
+
+
+def check_files():
+    """Each start has a folder of its own by the greatest number and one, that its owner alone may read, whatever the umask."""
+    with tempfile.TemporaryDirectory() as folder:
+        umask = os.umask(0)
+        try:
+            for number, deleted in ("1", None), ("2", "1"), ("3", None), ("12", None), ("13", "1"):
+                for name in "11", "12.old", "notes", os.fsdecode(b"\xff"):
+                    if number == "12":
+                        (Path(folder) / name).mkdir()
+                with Server(2, [Owner("User000", 0)], settings(folder)) as server:
+                    greeted(server)
+                    server.stop()
+                made = Path(folder) / number
+                modes = {it.name: it.stat().st_mode & 0o777 for it in [made, *made.iterdir()]}
+                if modes != {number: 0o700, **dict.fromkeys(("0", "1", "settings.toml", "accounts.toml", "spare"), 0o600)}:
+                    raise Difference(f"the record {number} has {modes}")
+                if deleted and (Path(folder) / deleted).exists():
+                    shutil.rmtree(Path(folder) / deleted)
+        finally:
+            os.umask(umask)
+    print("  five records are numbered by the greatest and one, and only their owner may read them", flush=True)
+
+
+def check_closed():
+    """Without standard descriptors the files of a record have none of what the server prints."""
+    for closed in (0,), (1,), (2,), (0, 1, 2):
+        with tempfile.TemporaryDirectory() as folder:
+            port = free_port()
+            (Path(folder) / "settings.toml").write_text(f'address = "{ADDRESS}:{port}"\nrecord = "{folder}"\nlog = "all"\n')
+            (Path(folder) / "accounts.toml").write_text(Owner("User000", 0).table())
+            call = [program("LOBBY_MAIN", "lobby_main"), "serve", f"{folder}/settings.toml", f"{folder}/accounts.toml"]
+            server = subprocess.Popen(call, stdin=subprocess.DEVNULL, stdout=subprocess.DEVNULL, stderr=subprocess.DEVNULL,
+                                      preexec_fn=lambda shut=closed: [os.close(it) for it in shut])
+            try:
+                for _ in range(200):
+                    with contextlib.suppress(OSError), socket.create_connection((ADDRESS, port), 1) as link:
+                        link.sendall(Owner("User000", 0).login().encode())
+                        while b"LOGININFOEND" not in link.recv(65_536):
+                            pass
+                        break
+                    time.sleep(0.05)
+                time.sleep(0.5)
+            finally:
+                server.kill()
+                server.wait()
+            text = b"".join(files_of(Path(folder) / "1"))
+            heads = (Path(folder) / "1/settings.toml").read_bytes() + (Path(folder) / "1/accounts.toml").read_bytes()
+            lines = text.split(b"\n")[:-1]
+            if not any(b" send 1 LOGIN " in it for it in lines) or not all(it.split(b" ")[0].isdigit() for it in lines):
+                raise Difference(f"with {closed} closed the record has {text}")
+            if b"listening" in heads or b"started" in heads:
+                raise Difference(f"with {closed} closed the head of a record has {heads}")
+    print("  with standard descriptors closed nothing else is in the record", flush=True)
 
 
 def check_faults():
@@ -320,18 +378,25 @@ def check_faults():
                 print("  a full disk: this user may not mount one", flush=True)
             elif set(goes_on(disk, workers, "a full disk")) != {"end disk"}:
                 raise Difference("not every file says that the disk is full")
+    with small_disk() as disk:
+        # A line of which some 8,000 bytes may be missing, twice what the spare file keeps room for.
+        if disk and goes_on(disk, 1, "a full disk and long lines", line=f"SAY nowhere {'x' * 8_000}\n") != ["end disk"]:
+            raise Difference("the file does not say that the disk is full")
     with tempfile.TemporaryDirectory() as folder:
         goes_on(folder, 2, "a folder that goes", shutil.rmtree)
 
 
 def check(what="short", *words):
     if what != "short":
-        {"long": check_long, "killed": check_killed, "faults": check_faults, "cost": check_cost}[what](*words)
+        {"long": check_long, "killed": check_killed, "files": lambda: (check_files(), check_closed()), "faults": check_faults,
+         "cost": check_cost}[what](*words)
         return
     for name in "lobby_main", "lobby_play":
         os.environ.setdefault(name.upper(), str(ROOT / "crates" / name / "out" / name))
     check_long("2", "6", "40", "600")
     check_killed("2")
+    check_files()
+    check_closed()
     check_faults()
 
 

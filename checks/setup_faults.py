@@ -264,6 +264,11 @@ def check_folder(files):
     status, lines = files.told(preexec_fn=as_nobody, cwd="/")
     told = f"record: {folder}: no file can be written there: permission denied"
     tells("a folder of another user", status == 2 and told in lines and user in lines, "\n".join(lines))
+    os.chown(folder, 65_534, 65_534)
+    folder.chmod(0o300)
+    status, lines = files.told(preexec_fn=as_nobody, cwd="/")
+    told = f"record: {folder}: what is in it cannot be listed: permission denied"
+    tells("a folder that its user may not list", status == 2 and told in lines and not list(folder.iterdir()), "\n".join(lines))
     files.settings.write_text(AT)
     files.accounts.chmod(0o640)
     status, lines = files.told(preexec_fn=as_nobody, cwd="/")

@@ -1,5 +1,5 @@
 #!/usr/bin/env python3
-"""lobby_account: adds and changes accounts in a lobby's file of accounts.
+"""lobby_account: adds and changes accounts in a lobby's file of accounts, or prints the word of a password.
 
 Of the file it changes the lines that it must and no other: comments and order stay. What it writes, lobby_check has
 read before, and it takes the file's place at once: whatever fails, the old file is there."""
@@ -266,10 +266,10 @@ def write(book, change, folder):
         new.unlink(missing_ok=True)
 
 
-def password_word(name):
+def password_word(asked):
     """The word of a password that is typed twice at a terminal, or that is the first line of standard input."""
     if sys.stdin.isatty():
-        password = getpass.getpass(f"Password of {name}: ").encode("utf-8", "surrogateescape")
+        password = getpass.getpass(f"{asked}: ").encode("utf-8", "surrogateescape")
         if getpass.getpass("The same again: ").encode("utf-8", "surrogateescape") != password:
             raise Refused("the two passwords differ")
     else:
@@ -379,6 +379,9 @@ CHANGES = {"add": add, "password": password, "disable": disable, "enable": enabl
 
 def run(options):
     """Does what is asked."""
+    if options.command == "hash":
+        print(password_word("Password"))
+        return
     path = Path(options.accounts).resolve()
     book = Book(path)
     if options.command == "list":
@@ -389,7 +392,7 @@ def run(options):
     if options.command in ("add", "password"):
         # Before the password is asked, and before the file is kept from others.
         refuse_known(book, options.name) if options.command == "add" else book.number_of(options.name)
-        word = password_word(options.name)
+        word = password_word(f"Password of {options.name}")
     with locked(path.parent) as folder:
         book = Book(path)
         change = Change(book)
@@ -432,6 +435,8 @@ def parsed():
             command.add_argument("--access", action="store_true", help="mark it as a moderator's")
             command.add_argument("--bot", action="store_true", help="mark it as a program's")
     commands.add_parser("list", help="shows the accounts, without passwords", parents=[shared])
+    about = "prints the word that an account has for a password"
+    commands.add_parser("hash", help=about, description=about)
     return parser.parse_args()
 
 

@@ -1,5 +1,6 @@
 #!/usr/bin/env python3
-"""deb.py [--version] : makes the Debian packages, out of what install.sh installs, into out/, or says of which version they would be.
+"""deb.py [--version|--mark PROGRAM..] : makes the Debian packages, out of what install.sh installs, into out/; or says of which version
+they would be; or has programs say that for --version.
 
 The version is the newest number of CHANGELOG.md; where that has changes behind it, with the time and name of the last commit behind a
 `+`, which Debian takes for newer than the number alone."""
@@ -20,6 +21,8 @@ ROOT = Path(__file__).resolve().parent.parent
 SCRIPTS = ROOT / "packaging/deb"
 MAINTAINER = "Rudderraisin maintainers <maintainers@users.noreply.rudderraisin.example>"
 CONFIGURATION = "etc/rudderraisin"
+# How many bytes stand behind a program that is no release, and how they begin, as the program knows them.
+TAIL, TAIL_BEGINS = 96, b"\nrudderraisin version "
 # The packages. Each takes files from where install.sh lays them to their places in it; the server's has all that no other takes.
 SERVER = "rudderraisin"
 LIBRARIES = "usr/lib/x86_64-linux-gnu"
@@ -79,6 +82,14 @@ def version():
         return number
     commit = output("git", "log", "-1", "--format=%ct %h").split()
     return f"{number}+git{strftime('%Y%m%d%H%M', gmtime(int(commit[0])))}.{commit[1]}" if commit else f"{number}+unreleased"
+
+
+def mark(program):
+    """Has a program say of which version it is, where that is no release: it looks for it behind its own last byte."""
+    if shown := re.search(r"\+.*", version()):
+        had = program.read_bytes()
+        had = had[:-TAIL] if had[-TAIL:].startswith(TAIL_BEGINS) else had
+        program.write_bytes(had + (TAIL_BEGINS + shown.string.encode()).ljust(TAIL))
 
 
 def debian_changes(name):
@@ -170,6 +181,10 @@ def main():
     if sys.argv[1:] == ["--version"]:
         print(version())
         return 0
+    if sys.argv[1:2] == ["--mark"]:
+        for it in map(Path, sys.argv[2:]):
+            mark(it)
+        return 0
     if not shutil.which("dpkg-deb"):
         sys.exit("there is no dpkg-deb, which makes the packages: install dpkg")
     os.environ.setdefault("SOURCE_DATE_EPOCH", output("git", "log", "-1", "--format=%ct") or "0")
@@ -191,6 +206,8 @@ def main():
             programs = binaries(stage)
             if programs and shutil.which("strip"):
                 subprocess.run(["strip", "--strip-unneeded", "--remove-section=.comment", *programs], check=True)
+            for it in programs if name == SERVER else []:
+                mark(it)
             fill(stage, name, fields(name, programs), is_proved or name != SERVER)
     return 0
 

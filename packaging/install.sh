@@ -24,7 +24,7 @@ put() { install -D -m "$1" "$2" "$room/all$3"; }
 gather() {
     local file
     # The server is to stop where its unit ends its input, and nobody is to log in by the password of an example. There is no `make`.
-    local here="s|docs/OPERATING.md|$documents/OPERATING.md|; s/make hash/lobby_main hash/"
+    local here="s|docs/OPERATING.md|$documents/OPERATING.md|; s/make hash/lobby_account hash/"
     sed "s/^stop_at_input_end = false/stop_at_input_end = true /; $here" "$root/examples/lobby.toml" > "$room/lobby.toml"
     sed "/^\[\[account/,$ s/^./# &/; $here" "$root/examples/accounts.toml" > "$room/accounts.toml"
     put 644 "$room/lobby.toml" "$configuration/lobby.toml"

@@ -173,6 +173,7 @@ def programs(rt):
             print("".join((BIN / f"{name}.log").read_text(errors="replace").splitlines(True)[-20:]), end="")
             continue
         shutil.copy(ROOT / "crates" / name / "out" / name, BIN / name)
+        subprocess.run([ROOT / "packaging/deb.py", "--mark", BIN / name], check=True)
         os.utime(BIN / name, (begun.stat().st_atime, begun.stat().st_mtime))
         print(f"bin/{name} is built", flush=True)
     return failed

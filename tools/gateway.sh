@@ -15,7 +15,7 @@ if ! is_new; then
         echo "there is no Go, which builds the gateway: on Debian, apt-get install golang-go" >&2
         exit 1
     fi
-    version=$(sed -n 's/^## \([0-9][0-9.]*\)$/\1/p' "$root/CHANGELOG.md" | head -n 1)
+    version=$("$root/packaging/deb.py" --version)
     # Nothing is fetched: the standard library alone is used, and the Go that is there.
     export GOPROXY=off GOTOOLCHAIN=local
     [ -n "${HOME:-}" ] || export GOCACHE=$root/out/go

@@ -35,6 +35,7 @@ chmod +x "$room/kit/toolchain/bin/clang"
 
 (cd "$root/crates/$name" && "$room/kit/bin/rt" try < /dev/null > "$room/told" 2>&1) || true
 [ -x "$room/program" ]
+"$root/packaging/deb.py" --mark "$room/program"
 touch -r "$room/begun" "$room/program"
 mkdir -p "$(dirname "$file")"
 mv "$room/program" "$file"

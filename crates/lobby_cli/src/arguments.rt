@@ -31,10 +31,13 @@ fn fail_by<R: Eprint>(rt: &R, error: ProgramError) -> u8
     fail(rt, error, error.status())
 }
 
-/// Prints the password word of standard input's first line.
-fn print_word<R: Input + Print + Eprint>(rt: &R) -> u8
+/// Prints the password word of standard input's first line, but reads none from a terminal.
+fn print_word<R: Input + Print + Eprint>(rt: &R, at_terminal: bool) -> u8
     ensures { result ≤ 4 }
 {
+    if at_terminal {
+        return fail_by(rt, ProgramError::Terminal);
+    }
     let mut reader = rt.reader();
     let mut writer = io::writer(rt);
     match hash_line(&mut reader, &mut writer) {
@@ -47,7 +50,8 @@ fn print_word<R: Input + Print + Eprint>(rt: &R) -> u8
 /// Runs the server until its input ends, or until the program is killed.
 fn run_server<R>(rt: &R, settings: &str, accounts: &str) -> u8
 where
-    R: Files + Input + Print + Eprint + AllocGlobal + Threads + Wait + Net + RandomSource + Sync,
+    R: Files + Input + Print + Eprint + AllocGlobal + Threads + Wait + Net + RandomSource,
+    R: Clone + Drop + Sync,
     R::File: Send,
     ensures { result ≤ 4 }
 {
@@ -59,20 +63,12 @@ where
 
 /// Does what the arguments ask for, and gives the exit status: 0 where it was done, 1 for wrong arguments or a line
 /// that is too long, 2 where a file or the input cannot be used, 3 where the server cannot listen, 4 without memory
-/// while it starts. Every status but 0 has one line on standard error.
-pub fn run<R>(rt: &R) -> u8
+/// while it starts. Every status but 0 has one line on standard error. No password is read where standard input is a
+/// terminal, which would show it.
+pub fn run<R>(rt: &R, at_terminal: bool) -> u8
 where
-    R: Files
-        + Env
-        + Input
-        + Print
-        + Eprint
-        + AllocGlobal
-        + Threads
-        + Wait
-        + Net
-        + RandomSource
-        + Sync,
+    R: Files + Env + Input + Print + Eprint + AllocGlobal + Threads + Wait + Net + RandomSource,
+    R: Clone + Drop + Sync,
     R::File: Send,
     ensures { result ≤ 4 }
 {
@@ -93,7 +89,7 @@ where
         return fail(rt, USAGE, 1);
     }
     match (command.as_str(), &settings, &accounts) {
-        ("hash", None, None) => print_word(rt),
+        ("hash", None, None) => print_word(rt, at_terminal),
         ("serve", Some(settings), Some(accounts)) => {
             run_server(rt, settings.as_str(), accounts.as_str())
         }

@@ -19,6 +19,9 @@ pub enum ProgramError {
     /// The files of a record cannot be made.
     #[error("cannot make a record")]
     Record,
+    /// A password would be read from a terminal.
+    #[error("a terminal would show the password: use lobby_account hash")]
+    Terminal,
     /// The system gave no random bytes.
     #[error("no random bytes")]
     Random,
@@ -28,13 +31,16 @@ pub enum ProgramError {
 }
 
 impl ProgramError {
-    /// The exit status: 2 for settings, accounts and a record, 3 for random bytes, and the server's own.
+    /// The exit status: 2 for settings, accounts, a record and a terminal, 3 for random bytes, and the server's own.
     pub fn status(self) -> u8
         ensures value { result ≡ status_of self }
         ensures within { (2 ≤ result) × (result ≤ 4) }
     {
         match self {
-            ProgramError::Settings | ProgramError::Accounts | ProgramError::Record => 2,
+            ProgramError::Settings
+            | ProgramError::Accounts
+            | ProgramError::Record
+            | ProgramError::Terminal => 2,
             ProgramError::Random => 3,
             ProgramError::Server(error) => error.status(),
         }

@@ -6,15 +6,22 @@ use lobby_model::Settings;
 use lobby_workers::{Masks, Record, RecordFiles, ServerError};
 use program_help::VERSION;
 use record_lines::{accounts_file, settings_file};
-use std::fs::{self, OpenOptions};
+use server_log::ShortText;
+use std::fs::{self, DirBuilder, OpenOptions};
 use std::io::{self, ErrorKind, Write};
+use std::os::unix::fs::{DirBuilderExt, OpenOptionsExt};
 use std::rt::Files;
 
 /// What the last line of one file takes on a full disk at most: a block.
 static BLOCK: [u8; 4_096] = [0; 4_096];
 
-/// The most records of a folder.
-const RECORDS: u32 = 1_000_000;
+/// How many other servers may make a folder between a look for the greatest number and one's own.
+const RACES: u64 = 1_000;
+
+/// Whoever else is on the machine reads none of it, whatever the umask is.
+const FOLDER_MODE: u32 = 0o700;
+
+const FILE_MODE: u32 = 0o600;
 
 /// What a record is made for.
 #[derive(Clone, Copy)]
@@ -29,17 +36,21 @@ pub struct NewRecord<'a> {
     pub accounts: &'a [u8],
 }
 
-/// The files of a record, in a folder of its own below that of the server's records, which is named by the least number
-/// that no other has: `settings.toml` and `accounts.toml`, which are written here, a file for each worker by its
-/// number, and `spare`, which only takes up room. Nothing is written over.
-pub fn new_record<R: Files + AllocGlobal>(
+/// The files of a record, in a folder of its own below that of the server's records, which is named by the greatest
+/// number there and one: `settings.toml` and `accounts.toml`, which are written here, a file for each worker by its
+/// number, and `spare`, which only takes up room. Only their owner may read them. Nothing is written over.
+pub fn new_record<R: Files + AllocGlobal + Clone + Drop>(
     rt: &R,
     record: &NewRecord<'_>,
     masks: Masks,
 ) -> Result<Record<R::File>, ProgramError> {
     let mut files = RecordFiles::new(rt.alloc());
     match add_files(rt, record, &mut files) {
-        Ok(()) => Ok(Record { masks, files }),
+        Ok(folder) => Ok(Record {
+            masks,
+            folder,
+            files,
+        }),
         Err(error) => {
             drop(masks);
             drop(files);
@@ -48,11 +59,12 @@ pub fn new_record<R: Files + AllocGlobal>(
     }
 }
 
-fn add_files<R: Files + AllocGlobal>(
+/// Makes the folder and the files, and says which folder it is.
+fn add_files<R: Files + AllocGlobal + Clone + Drop>(
     rt: &R,
     record: &NewRecord<'_>,
     files: &mut RecordFiles<R::File>,
-) -> Result<(), ProgramError> {
+) -> Result<ShortText, ProgramError> {
     let folder = new_folder(rt, record.folder)?;
     let text = settings_file(rt.alloc(), VERSION, record.settings)?;
     write_file(rt, folder.as_str(), "settings.toml", &text)?;
@@ -71,7 +83,7 @@ fn add_files<R: Files + AllocGlobal>(
         }
     }
     files.keep_spare(spare);
-    Ok(())
+    Ok(ShortText::of(folder.as_bytes()))
 }
 
 /// Why the accounts of a record cannot be written.
@@ -82,11 +94,18 @@ fn unlisted(error: AccountsError) -> ProgramError {
     }
 }
 
-/// A new folder below this one.
-fn new_folder<R: Files + AllocGlobal>(rt: &R, folder: &str) -> Result<String, ProgramError> {
-    for number in 1..=RECORDS {
+/// A new folder below this one, for its owner alone.
+fn new_folder<R: Files + AllocGlobal + Clone + Drop>(
+    rt: &R,
+    folder: &str,
+) -> Result<String, ProgramError> {
+    let greatest = greatest_number(rt, folder)?;
+    let mut how = DirBuilder::new();
+    how.mode(FOLDER_MODE);
+    for more in 1..=RACES {
+        let number = greatest.saturating_add(more);
         let name = format!(in rt.alloc(); "{folder}/{number}")?;
-        match fs::create_dir(rt, name.as_str()) {
+        match how.create(rt, name.as_str()) {
             Ok(()) => return Ok(name),
             Err(error) if error.kind() == ErrorKind::AlreadyExists => {}
             Err(error) => return Err(refused(error)),
@@ -95,10 +114,35 @@ fn new_folder<R: Files + AllocGlobal>(rt: &R, folder: &str) -> Result<String, Pr
     Err(ProgramError::Record)
 }
 
-/// A new file, to be written.
+/// The greatest number by which anything in a folder is named, or 0.
+fn greatest_number<R: Files + AllocGlobal + Clone + Drop>(
+    rt: &R,
+    folder: &str,
+) -> Result<u64, ProgramError> {
+    let mut greatest = 0;
+    for entry in fs::read_dir(rt, folder).map_err(refused)? {
+        match entry {
+            Ok(entry) => greatest = greatest.max(number_of(entry.file_name())),
+            // Its name is no text, and so no number.
+            Err(error) if error.kind() == ErrorKind::InvalidFilename => {}
+            Err(error) => return Err(refused(error)),
+        }
+    }
+    Ok(greatest)
+}
+
+/// The number that a name is, or 0.
+fn number_of(name: &str) -> u64 {
+    match name.parse::<u32>() {
+        Ok(number) => u64::from(number),
+        Err(_) => 0,
+    }
+}
+
+/// A new file for its owner alone, to whose end all is written.
 fn new_file<R: Files>(rt: &R, name: &str) -> Result<R::File, ProgramError> {
     let mut how = OpenOptions::new();
-    how.write(true).create_new(true);
+    how.append(true).create_new(true).mode(FILE_MODE);
     match how.open(rt, name) {
         Ok(file) => Ok(file),
         Err(error) => Err(refused(error)),

@@ -72,7 +72,7 @@ fn book_of(alloc: Global, file: &[u8]) -> Result<AccountBook, ProgramError> {
 }
 
 /// The files of the record of a server, if it has one, in which private talk is written or not.
-fn record_of<R: Files + AllocGlobal>(
+fn record_of<R: Files + AllocGlobal + Clone + Drop>(
     rt: &R,
     record: &NewRecord<'_>,
     private: bool,
@@ -117,7 +117,8 @@ fn text_of(
 /// settings, accounts, listener and record is the answer, and then what `run_server_recorded` gives.
 pub fn serve<R>(rt: &R, settings: &str, accounts: &str) -> Result<(), ProgramError>
 where
-    R: Files + Input + Print + Eprint + AllocGlobal + Threads + Wait + Net + RandomSource + Sync,
+    R: Files + Input + Print + Eprint + AllocGlobal + Threads + Wait + Net + RandomSource,
+    R: Clone + Drop + Sync,
     R::File: Send,
 {
     let Setup {

@@ -368,13 +368,14 @@ impl Connections {
         }
     }
 
-    /// Takes in a connection that was prepared, behind which none was, and whose client was opened.
-    pub fn put(&mut self, client: u64, link: WireLink)
+    /// Takes in a connection that was prepared, behind which none was, and whose client was opened from this address.
+    pub fn put(&mut self, client: u64, ip: [u8; 4], link: WireLink)
         requires { 0 < self.old.room }
         ensures rest { Stays self.old self.new }
         ensures count { self.new.count ≡ self.old.count + 1 }
     {
-        let conn = Conn::new(self.alloc, client);
+        let mut conn = Conn::new(self.alloc, client);
+        conn.came_from(ip);
         let connection = Connection::new(conn, link, self.round.wrapping_sub(1));
         let key = self.slab.insert_reserved(connection);
         match self.keys.insert(client, key) {

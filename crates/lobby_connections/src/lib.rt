@@ -13,6 +13,6 @@ mod wire_link;
 
 pub use connection::Connection;
 pub use connections::{Connections, NAMES_IN_HOLD};
-pub use newcomers::Newcomers;
+pub use newcomers::{Fronted, Newcomers};
 pub use poll_timeout::PollTimeout;
 pub use wire_link::WireLink;

@@ -27,8 +27,22 @@ pub enum Progress {
     Waits,
     /// All of it: the connection comes from this address.
     Whole([u8; 4]),
-    /// It is none with which a front begins, the other side has ended, or the device failed.
-    Over,
+    /// It is none with which a front begins.
+    Refused,
+    /// The other side has ended before all of it came, or the device failed.
+    Ended,
+}
+
+/// What came of a connection of a front so far.
+#[derive(Drop)]
+pub enum Fronted {
+    /// Its line is whole: the connection comes from this address, and is given back.
+    Client { stream: TcpStream, ip: [u8; 4] },
+    /// It was closed, since its line is none with which a front begins. The front is at this address.
+    Refused { ip: [u8; 4] },
+    /// Its line is waited for; or the connection was closed, since it ended or the system or memory do not allow it to
+    /// wait.
+    Nothing,
 }
 
 /// A connection whose line is not whole yet.
@@ -48,7 +62,7 @@ impl Newcomer {
         match self.line.take(byte) {
             Step::More => Progress::Waits,
             Step::Whole(source) => Progress::Whole(source.address(self.ip)),
-            Step::Refused => Progress::Over,
+            Step::Refused => Progress::Refused,
         }
     }
 
@@ -62,10 +76,10 @@ impl Newcomer {
                     done => return done,
                 },
                 Got::Later => return Progress::Waits,
-                Got::End | Got::Fault => return Progress::Over,
+                Got::End | Got::Fault => return Progress::Ended,
             }
         }
-        Progress::Over
+        Progress::Refused
     }
 }
 
@@ -90,25 +104,21 @@ impl Newcomers {
     }
 
     /// A connection comes from a front, which is at this address. It is given back, with where it comes from, where its
-    /// line is there already. It is closed where that is refused, or the system or memory do not allow it to wait.
-    pub fn begin(
-        &mut self,
-        registry: &Registry,
-        stream: TcpStream,
-        ip: [u8; 4],
-    ) -> Option<(TcpStream, [u8; 4])> {
+    /// line is there already.
+    pub fn begin(&mut self, registry: &Registry, stream: TcpStream, ip: [u8; 4]) -> Fronted {
         let line = HalfLine::new();
         let mut newcomer = Newcomer { stream, ip, line };
         match newcomer.read_line() {
             Progress::Waits => {
                 self.wait(registry, newcomer);
-                None
+                Fronted::Nothing
             }
             Progress::Whole(ip) => {
                 let Newcomer { stream, .. } = newcomer;
-                Some((stream, ip))
+                Fronted::Client { stream, ip }
             }
-            Progress::Over => None,
+            Progress::Refused => Fronted::Refused { ip },
+            Progress::Ended => Fronted::Nothing,
         }
     }
 
@@ -139,22 +149,42 @@ impl Newcomers {
     }
 
     /// Reads on for the connection of a poll's token. It is given back, with where it comes from, once its line is
-    /// whole. It is closed where that is refused, or the system does not let go of it.
-    pub fn turn(&mut self, registry: &Registry, token: Token) -> Option<(TcpStream, [u8; 4])> {
-        let place = self.places.get_mut(token.0.checked_sub(FIRST)?)?;
-        let mut newcomer = mem::replace(place, None)?;
+    /// whole. It is closed where the system does not let go of it then.
+    pub fn turn(&mut self, registry: &Registry, token: Token) -> Fronted {
+        let Some(newcomer) = self.take_out(token) else {
+            return Fronted::Nothing;
+        };
+        let mut newcomer = newcomer;
         match newcomer.read_line() {
             Progress::Waits => {
-                drop(mem::replace(place, Some(newcomer)));
-                None
+                self.put_back(token, newcomer);
+                Fronted::Nothing
             }
             Progress::Whole(ip) => {
                 let Newcomer { stream, .. } = newcomer;
                 let mut stream = stream;
-                registry.deregister(&mut stream).ok()?;
-                Some((stream, ip))
+                match registry.deregister(&mut stream) {
+                    Ok(()) => Fronted::Client { stream, ip },
+                    Err(_) => Fronted::Nothing,
+                }
             }
-            Progress::Over => None,
+            Progress::Refused => Fronted::Refused { ip: newcomer.ip },
+            Progress::Ended => Fronted::Nothing,
+        }
+    }
+
+    /// Takes out the connection of a poll's token. None where there is none.
+    fn take_out(&mut self, token: Token) -> Option<Newcomer> {
+        let place = self.places.get_mut(token.0.checked_sub(FIRST)?)?;
+        mem::replace(place, None)
+    }
+
+    /// Puts back the connection that was taken out of the place of a poll's token.
+    fn put_back(&mut self, token: Token, newcomer: Newcomer) {
+        if let Some(index) = token.0.checked_sub(FIRST)
+            && let Some(place) = self.places.get_mut(index)
+        {
+            drop(mem::replace(place, Some(newcomer)));
         }
     }
 }

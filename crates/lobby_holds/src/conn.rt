@@ -19,7 +19,7 @@ use client_session::{Next, Session};
 use command_grammar::Command;
 use line_framer::FeedError;
 use lobby_lock::Held;
-use lobby_machine::Wakes;
+use lobby_machine::LoginAnswer;
 use server_log::{Cause, Happening};
 use std::alloc::{AllocError, Global};
 use std::marker::Model;
@@ -184,13 +184,20 @@ impl Conn {
         Asked::of(held, self.client(), command)
     }
 
-    /// The client's line was said in a hold that goes on, and touched these workers' clients: notes what became of it,
-    /// and has operators told of a login.
-    pub(crate) fn note<G: Gate>(&mut self, held: &Held, gate: &G, asked: Asked, wakes: Wakes)
+    /// The client's line was said in a hold that goes on, and so it was answered if it was a login: notes what became
+    /// of it, and has operators told of a login.
+    pub(crate) fn note<G: Gate>(&mut self, gate: &G, asked: Asked, login: Option<LoginAnswer>)
         ensures { self.new ≡ self.old }
     {
         let client = self.session.client();
-        self.visit.note(held, client, gate, asked, wakes);
+        self.visit.note(client, gate, asked, login);
+    }
+
+    /// Notes for operators where the client connected from. Until then that is 0.0.0.0.
+    pub fn came_from(&mut self, ip: [u8; 4])
+        ensures { self.new ≡ self.old }
+    {
+        self.visit.came_from(ip);
     }
 
     /// Notes for operators that the lobby said that nothing will ever come of the client.
@@ -210,6 +217,12 @@ impl Conn {
             .cause(self.is_spoilt_next(), has_failed)
             .unwrap_or(otherwise);
         self.visit.logout(self.client(), cause)
+    }
+
+    /// What operators are told where the client has gone: how often more than they were told its logins were denied, if
+    /// any was.
+    pub fn denied_more(&self) -> Option<Happening> {
+        self.visit.denied_more(self.client())
     }
 }
 

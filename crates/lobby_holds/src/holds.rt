@@ -77,10 +77,10 @@ fn say_line<G: Gate>(
 {
     let asked = conn.asked(held, &request.command);
     match held.say(conn.client(), request) {
-        Ok(wakes) => {
+        Ok(said) => {
             conn.accept();
-            conn.note(held, gate, asked, wakes);
-            Ok(wakes)
+            conn.note(gate, asked, said.login);
+            Ok(said.wakes)
         }
         Err(error) => Err(error),
     }

@@ -1,22 +1,22 @@
-//! What the log tells of logins: who is logged in at a connection, and how that ends. What a line brings about is read
-//! off the lobby's answer to it, in the hold in which it was said; no contract speaks of it.
+//! What the log tells of logins: who is logged in at a connection, and how that ends. How a login was answered the
+//! lobby itself says.
 
 use crate::gate::Gate;
 use command_grammar::Command;
-use line_words::{NameBuf, split_at_byte};
+use line_words::NameBuf;
 use lobby_lock::Held;
-use lobby_machine::Wakes;
-use lobby_model::settings::LEAST_OUTBOX_LIMIT;
+use lobby_machine::LoginAnswer;
 use server_log::{Cause, Denial, Happening, ShortText};
 
-/// The most bytes of an answer that denies a login, with an id and its LF, and some to spare.
-const DENIED: usize = 64;
+/// So many denials of a client are told, and those behind them are counted: a client that logs in again and again does
+/// not fill the log.
+const DENIALS_TOLD: u64 = 3;
 
 /// What of a line operators may be told.
 #[derive(Drop)]
 pub(crate) enum Asked {
-    /// A login under this name, behind so many bytes that wait for the client.
-    Login { name: ShortText, waiting: usize },
+    /// A login under this name.
+    Login { name: ShortText },
     /// To log out, while it hears.
     Exit,
     /// Anything else.
@@ -29,7 +29,6 @@ impl Asked {
         match command {
             Command::Login { user_name, .. } => Asked::Login {
                 name: ShortText::of(user_name.as_slice()),
-                waiting: held.unread(client),
             },
             Command::Exit if held.hears(client) => Asked::Exit,
             _ => Asked::Other,
@@ -37,59 +36,94 @@ impl Asked {
     }
 }
 
-/// How the lobby answered a login.
-#[derive(Clone, Copy, PartialEq, Eq, Debug)]
-enum Answer {
-    LetIn,
-    Denied(Denial),
-    /// The client hears nothing any more, and its login was not looked at.
-    Nothing,
+/// Why a login was denied. None where it was not.
+fn denial_of(answer: LoginAnswer) -> Option<Denial> {
+    match answer {
+        LoginAnswer::LetIn => None,
+        LoginAnswer::Invalid => Some(Denial::Invalid),
+        LoginAnswer::InUse => Some(Denial::InUse),
+        LoginAnswer::Again => Some(Denial::Again),
+    }
 }
 
 /// What is remembered of a client.
 #[derive(Drop)]
 pub(crate) struct Visit {
+    // where it connected from
+    ip: [u8; 4],
     // who logged in
     user: Option<NameBuf>,
+    // how many of its logins were denied
+    denials: u64,
     has_exited: bool,
     is_finished: bool,
 }
 
 impl Visit {
-    /// Nobody is logged in.
+    /// Nobody is logged in, and it is not known from where the client connected.
     pub(crate) fn new() -> Visit {
         Visit {
+            ip: [0; 4],
             user: None,
+            denials: 0,
             has_exited: false,
             is_finished: false,
         }
     }
 
-    /// The client's line was said, which touched these workers' clients. Operators are told of a login.
+    /// The client connected from this address.
+    pub(crate) fn came_from(&mut self, ip: [u8; 4]) {
+        self.ip = ip;
+    }
+
+    /// The client's line was said, and so it was answered if it was a login. Operators are told of that.
     pub(crate) fn note<G: Gate>(
         &mut self,
-        held: &Held,
         client: u64,
         gate: &G,
         asked: Asked,
-        wakes: Wakes,
+        login: Option<LoginAnswer>,
     ) {
         match asked {
-            Asked::Login { name, waiting } => match answer_in(held, client, waiting, wakes) {
-                Answer::LetIn => {
-                    self.user = NameBuf::of(name.as_slice());
-                    gate.tell(Happening::Login { client, name });
+            Asked::Login { name } => {
+                if let Some(answer) = login {
+                    self.note_login(client, gate, name, answer);
                 }
-                Answer::Denied(reason) => gate.tell(Happening::Denied {
-                    client,
-                    name,
-                    reason,
-                }),
-                Answer::Nothing => {}
-            },
+            }
             Asked::Exit => self.has_exited = true,
             Asked::Other => {}
         }
+    }
+
+    /// A login under this name was answered so.
+    fn note_login<G: Gate>(&mut self, client: u64, gate: &G, name: ShortText, answer: LoginAnswer) {
+        let ip = self.ip;
+        let Some(reason) = denial_of(answer) else {
+            self.user = NameBuf::of(name.as_slice());
+            gate.tell(Happening::Login { client, name, ip });
+            return;
+        };
+        self.denials = self.denials.saturating_add(1);
+        if self.denials <= DENIALS_TOLD {
+            gate.tell(Happening::Denied {
+                client,
+                name,
+                reason,
+                ip,
+            });
+        }
+    }
+
+    /// How many denials were not told, of a client that has gone. None where each was.
+    pub(crate) fn denied_more(&self, client: u64) -> Option<Happening> {
+        if self.denials <= DENIALS_TOLD {
+            return None;
+        }
+        Some(Happening::DeniedMore {
+            client,
+            count: self.denials - DENIALS_TOLD,
+            ip: self.ip,
+        })
     }
 
     /// The lobby said that nothing will ever come of the client.
@@ -122,42 +156,5 @@ impl Visit {
             name,
             cause,
         })
-    }
-}
-
-/// How a login was answered behind so many bytes that waited before it. A client that was cut by it has no answer:
-/// where a denial had room, it was let in.
-fn answer_in(held: &Held, client: u64, waiting: usize, wakes: Wakes) -> Answer {
-    let mut front = [0u8; DENIED];
-    let count = held.copy_unread(client, waiting, &mut front);
-    let is_cut = count == 0 && wakes != Wakes::none();
-    if is_cut && waiting <= LEAST_OUTBOX_LIMIT - DENIED {
-        return Answer::LetIn;
-    }
-    answer_of(front.get(..count).unwrap_or(&[]))
-}
-
-/// What a line says that begins so.
-fn answer_of(line: &[u8]) -> Answer {
-    let said = without_id(line);
-    if said.starts_with(b"ACCEPTED ") {
-        return Answer::LetIn;
-    }
-    match said.strip_prefix(b"DENIED ") {
-        Some(why) if why.starts_with(b"Invalid ") => Answer::Denied(Denial::Invalid),
-        Some(why) if why.starts_with(b"User ") => Answer::Denied(Denial::InUse),
-        Some(_) => Answer::Denied(Denial::Again),
-        None => Answer::Nothing,
-    }
-}
-
-/// A line without the id in front of it.
-fn without_id(line: &[u8]) -> &[u8] {
-    match line {
-        [b'#', id @ ..] => {
-            let (_, behind) = split_at_byte(id, b' ');
-            behind.get(1..).unwrap_or(&[])
-        }
-        _ => line,
     }
 }

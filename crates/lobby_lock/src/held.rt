@@ -1,6 +1,6 @@
 //! A hold of the lobby.
 
-ghost use Rattle.std.specs.Prelude.{◌≡◌, ◌-◌, ◌<◌, ◌≤◌, ◌↔◌, ◌++◌, [], length, take, drop, min, OnOk, OnErr, IfNone};
+ghost use Rattle.std.specs.Prelude.{◌≡◌, ◌<◌, ◌≤◌, ◌↔◌, [], length, OnOk, OnErr, IfNone};
 ghost use Rattle.std.specs.Prelude.{IfOk, IsTrue, true, false, is_some};
 ghost use Rattle.command_grammar.specs.Kinds.{keeps_kinds};
 ghost use Rattle.line_words.specs.Table.{at_number};
@@ -11,6 +11,7 @@ ghost use Rattle.lobby_post.specs.Mail.{IsWakes};
 ghost use Rattle.lobby_machine.specs.Shown.{Applies, HasNoNumber, IsFull, IsNextNumber, KeepsOthers, ListsOpened};
 ghost use Rattle.lobby_machine.specs.Shown.{ListsTouched, Opens, TakesFirst, count_into, filled, dirty_at, unread_of};
 ghost use Rattle.lobby_machine.specs.Shown.{is_finished};
+ghost use Rattle.lobby_machine.specs.Logins.{AnswersLogin};
 ghost use Rattle.lobby_machine.specs.Work.{CountsOn};
 ghost use Rattle.lobby_lock.specs.Counts.{position_of};
 ghost use Rattle.lobby_lock.specs.Passes.{AddsEvent, lobby_after, made_in, pass_after};
@@ -24,11 +25,20 @@ use crate::pass::{Counts, Pass};
 use crate::place::put_back;
 use crate::rule::PlacePass;
 use command_grammar::Request;
-use lobby_machine::{Drained, Lobby, OpenError, Wakes};
+use lobby_machine::{Drained, Lobby, LoginAnswer, OpenError, Wakes};
 use lobby_model::Event;
 use std::alloc::AllocError;
 use std::marker::{Brand, Model};
 use std::sync::Wait;
+
+/// What came of a line that was said.
+#[derive(Clone, Copy)]
+pub struct SaidLine {
+    /// The workers whose clients it touched.
+    pub wakes: Wakes,
+    /// How the lobby answered it, if it was a login of a client that hears.
+    pub login: Option<LoginAnswer>,
+}
 
 /// A hold of the lobby: nobody else has it. Contracts see its pass, the lobby with its lists of changed
 /// clients, and its events so far.
@@ -93,19 +103,21 @@ impl Held {
     }
 
     /// A client's line was read as this request, as `Lobby::say` says: one event, also where it
-    /// changes nothing. Fails only where memory is refused, and then
-    /// nothing changes.
-    pub fn say(&mut self, client: u64, request: Request) -> Result<Wakes, AllocError>
+    /// changes nothing. Says too how a login was answered, as `Lobby::login_answer` does. Fails only where memory is
+    /// refused, and then nothing changes.
+    pub fn say(&mut self, client: u64, request: Request) -> Result<SaidLine, AllocError>
         requires few { length self.old.events < MOST_EVENTS }
         requires kinds { IsTrue (keeps_kinds request.command) }
         ensures ok { OnOk result (Applies self.old.lobby self.new.lobby (event.Say client request)) }
-        ensures wakes { IfOk result (λ wakes. IsWakes self.old.lobby.plain (event.Say client request) wakes) }
+        ensures wakes { IfOk result (λ said. IsWakes self.old.lobby.plain (event.Say client request) said.wakes) }
+        ensures login { IfOk result (λ said. AnswersLogin self.old.lobby.plain client request.command said.login) }
         ensures dirty { OnOk result (ListsTouched self.old.lobby self.new.lobby (event.Say client request)) }
         ensures event { OnOk result (AddsEvent self.old self.new (event.Say client request)) }
         ensures told { OnOk result (CountsOn self.old.lobby self.new.lobby (event.Say client request)) }
         ensures err { OnErr result (self.new ≡ self.old) }
         ensures heard { OnErr result (hears self.old.lobby.plain client ≡ true) }
     {
+        let login = answer_to(&self.lobby, client, &request);
         match self.lobby.say(client, &request) {
             Ok(wakes) => {
                 if self.events.keeps() {
@@ -114,7 +126,7 @@ impl Held {
                     self.events.add_unkept(client, &request);
                     request.discard();
                 }
-                Ok(wakes)
+                Ok(SaidLine { wakes, login })
             }
             Err(error) => {
                 request.discard();
@@ -198,16 +210,6 @@ impl Held {
         self.lobby.unread(client)
     }
 
-    /// Copies bytes that a client has not read into a slice, beginning `from` bytes behind the first, as
-    /// `Lobby::copy_unread` says. It is no event.
-    pub fn copy_unread(&self, client: u64, from: usize, into: &mut [u8]) -> usize
-        ensures count { result ≡ min (length (unread_of self.now.lobby.plain client) - from) (length into.old) }
-        ensures given { into.new ≡ take result (drop from (unread_of self.now.lobby.plain client))
-            ++ drop result into.old }
-    {
-        self.lobby.copy_unread(client, from, into)
-    }
-
     /// Gives the lobby back as the hold has it, with its lists of changed clients, and ends the hold: its
     /// events join the history under its worker's number, behind all that the worker has seen. Another
     /// worker may then take the lobby. What was kept of the events is let go.
@@ -251,4 +253,11 @@ impl Held {
         let pass = self.give(rt, desk);
         Made { pass, kept }
     }
+}
+
+/// How a lobby answers a client's request, if it is a login of a client that hears.
+fn answer_to(lobby: &Lobby, client: u64, request: &Request) -> Option<LoginAnswer>
+    ensures { AnswersLogin lobby.now.plain client request.now.command result }
+{
+    lobby.login_answer(client, &request.command)
 }

@@ -33,6 +33,6 @@ mod view;
 
 pub use closing::{CloseError, Closing, Count};
 pub use desk::{Desk, DeskError, HANDED_OVER, MOST_EVENTS, MOST_HANDED_OUT};
-pub use held::Held;
+pub use held::{Held, SaidLine};
 pub use made::Made;
 pub use pass::Pass;

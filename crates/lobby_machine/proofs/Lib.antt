@@ -5,3 +5,4 @@ pub mod Events
 pub mod Leaves
 pub mod Members
 pub mod Talked
+pub mod Logins

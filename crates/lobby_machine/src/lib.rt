@@ -7,8 +7,10 @@
 #![tactic(auto)]
 
 mod lobby;
+mod login_answer;
 mod rules;
 
 pub use battle_room::HashSeed;
 pub use lobby::{Lobby, OpenError};
 pub use lobby_post::{Drained, Wakes};
+pub use login_answer::LoginAnswer;

@@ -11,8 +11,10 @@ ghost use Rattle.lobby_post.specs.Mail.{IsWakes};
 ghost use Rattle.lobby_maps.specs.Calls.{Applies, HasNoNumber, IsFull, IsNextNumber, KeepsOthers, ListsTouched};
 ghost use Rattle.lobby_maps.specs.Calls.{ListsOpened, Opens, TakesFirst, count_into, filled};
 ghost use Rattle.lobby_maps.specs.Shown.{dirty_at, unread_of, is_finished};
+ghost use Rattle.lobby_machine.specs.Logins.{AnswersLogin};
 ghost use Rattle.lobby_machine.specs.Work.{CountsOn, list_length};
 
+use crate::login_answer::LoginAnswer;
 use crate::rules;
 use account_book::AccountBook;
 use battle_room::HashSeed;
@@ -152,6 +154,26 @@ impl Lobby {
         let change = rules::decide(maps, client, me, request.id, &request.command, post)?;
         let listed = LOOK_UP.wrapping_mul(list_len(&request.command) as u64);
         maps.commit(client, change, post, listed)
+    }
+
+    /// How the lobby answers a client's command, if that is a login of a client that hears. Nothing is done for any
+    /// other, and nothing changes.
+    pub fn login_answer(&self, client: u64, command: &Command) -> Option<LoginAnswer>
+        ensures { AnswersLogin self.now.plain client command.now result }
+    {
+        let Command::Login {
+            user_name,
+            password,
+            ..
+        } = command
+        else {
+            return None;
+        };
+        let maps = &self.parts.maps;
+        let Some(me) = maps.issuer(client) else {
+            return None;
+        };
+        Some(rules::login_answer(maps, client, me, user_name, password))
     }
 
     /// A client's connection is closed: it is removed, and its user, if it was logged in, is logged

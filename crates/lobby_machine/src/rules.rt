@@ -22,7 +22,7 @@ use line_words::NameBuf;
 use lobby_maps::{Change, Maps};
 use lobby_post::Post;
 use reply_kinds::{Held, HeldText, Name, Reply, Text};
-pub use session::close;
+pub use session::{close, login_answer};
 use std::alloc::AllocError;
 
 /// What a command of a client that hears comes to, told under the id of its request; a refusal is

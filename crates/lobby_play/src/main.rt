@@ -44,7 +44,7 @@ fn play_streams<R: Input + Print + AllocGlobal>(rt: &R) -> Result<(), PlayFault>
 }
 
 /// Plays the script of standard input, where the arguments do not ask what the program is.
-fn play_script<R: Env + Input + Print + AllocGlobal>(rt: &R) -> Result<(), PlayFault> {
+fn play_script<R: Env + Files + Input + Print + AllocGlobal>(rt: &R) -> Result<(), PlayFault> {
     match program_help::answers(rt, "lobby_play", HELP) {
         Ok(true) => Ok(()),
         Ok(false) => play_streams(rt),

@@ -19,10 +19,9 @@ mod workers;
 pub use error::ServerError;
 pub use lobby_lock::{Made, Pass};
 pub use lobby_machine::HashSeed;
-pub use logged::{Log, run_server_logged};
+pub use logged::{Log, run_server_recorded};
 pub use record::{Record, RecordFiles};
 pub use record_lines::Masks;
-pub use recorded::run_server_recorded;
 pub use server::{Service, run_server, run_service};
 pub use worker_loop::{
     Arrival, Conn, Gate, Got, Inboxes, Link, ListenError, Sent, Turn, TurnState, Wakers,

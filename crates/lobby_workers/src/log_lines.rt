@@ -10,8 +10,8 @@ use std::io::{self, ErrorKind, Write};
 /// The most bytes of a write: so many go to the system at once.
 const PIECE: usize = 1_024;
 
-/// Room for the longest line: a name whose 64 bytes are each written as three, and at most 61 around it.
-const LINE: usize = 256;
+/// Room for the longest line: a name whose 64 bytes are each written as three, and at most 75 around it.
+const LINE: usize = 272;
 
 /// Lines on their way to standard error.
 pub struct Lines {

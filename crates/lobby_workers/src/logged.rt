@@ -6,12 +6,15 @@ ghost use Rattle.lobby_workers.specs.Statuses.{IsEnd};
 use crate::error::ServerError;
 use crate::log_lines::Lines;
 use crate::log_queue::LogQueue;
+use crate::record::Record;
+use crate::recorded::{Ends, run_recorded};
 use crate::reporter::Reporter;
-use crate::server::{Service, run_service};
+use crate::server::Service;
 use lobby_model::WORKERS;
 use mio::net::TcpListener;
 use server_log::{LogLevel, Started};
 use std::alloc::{AllocError, Global};
+use std::fs::OpenFile;
 use std::io::{Read, Write};
 use std::net::Net;
 use std::sync::Wait;
@@ -27,28 +30,20 @@ pub struct Log {
     pub started: Started,
 }
 
-/// What the first thread listens with, reads and writes, and what is told what workers do.
-#[derive(Drop)]
-struct Ends<'a, I, O, G> {
-    listener: TcpListener,
-    input: &'a mut I,
-    output: &'a mut O,
-    gate: &'a G,
-}
-
-/// Runs a server as [`run_service`] does, and tells operators on `errors` what happens, a line each, from a thread of
-/// its own. Lines are written whole and in their order. No worker waits for one: what comes while 1,024 wait is lost,
-/// and its number is told.
+/// Runs a server with a record, if there is one, as [`run_recorded`] does, and tells operators on `errors` what
+/// happens, a line each, from a thread of its own. Lines are written whole and in their order. No worker waits for one:
+/// what comes while 1,024 wait is lost, and its number is told.
 ///
 /// A write to `errors` that fails by `WouldBlock` is tried again at once, so it has to wait a while before it does; any
 /// other that fails, behind what happens next. Once the server has ended, what a try does not write is given up; else
 /// the thread has written all that it was given. With the level `None` there is no such thread. The status is 3 also
 /// where the system makes no thread for it, and 4 where there is no memory for it.
-pub fn run_server_logged<
+pub fn run_server_recorded<
     R: Threads + Wait + Net + Sync,
     I: Read,
     O: Write,
     E: Write + Send + Drop,
+    W: Write + OpenFile + Send + Drop,
     G: Gate + Sync,
 >(
     rt: &R,
@@ -60,6 +55,7 @@ pub fn run_server_logged<
     errors: E,
     gate: &G,
     log: Log,
+    record: Option<Record<W>>,
 ) -> u8
     requires { (1 ≤ service.workers) × (service.workers ≤ WORKERS) }
     ensures { IsEnd result }
@@ -67,52 +63,47 @@ pub fn run_server_logged<
     let Log { level, started } = log;
     if level == LogLevel::None {
         drop(errors);
-        return run_service(rt, alloc, service, listener, input, output, gate);
+        return run_recorded(rt, alloc, service, listener, input, output, gate, record);
     }
     let ends = Ends {
         listener,
         input,
         output,
-        gate,
     };
     match new_log(alloc, level, started) {
-        Ok((queue, lines)) => run_scope(rt, alloc, service, ends, errors, &queue, lines),
+        Ok((queue, lines)) => {
+            let writing = Writing {
+                errors,
+                queue: &queue,
+                lines,
+            };
+            run_scope(rt, alloc, service, ends, gate, record, writing)
+        }
         Err(_) => {
             drop(service);
             drop(ends);
+            drop(record);
             drop(errors);
             ServerError::Memory.status()
         }
     }
 }
 
-/// Runs a server that puts what operators are told into a queue.
-fn run_reported<R: Threads + Wait + Net + Sync, I: Read, O: Write, G: Gate + Sync>(
-    rt: &R,
-    alloc: Global,
-    service: Service,
-    ends: Ends<'_, I, O, G>,
-    queue: &LogQueue,
-) -> u8
-    requires { (1 ≤ service.workers) × (service.workers ≤ WORKERS) }
-    ensures { IsEnd result }
-{
-    let Ends {
-        listener,
-        input,
-        output,
-        gate,
-    } = ends;
-    let reporter = Reporter { gate, log: queue };
-    run_service(rt, alloc, service, listener, input, output, &reporter)
+/// What the thread that writes works with.
+#[derive(Drop)]
+struct Writing<'a, E> {
+    errors: E,
+    queue: &'a LogQueue,
+    lines: Lines,
 }
 
 /// Runs no server, since the thread that writes could not be made.
-fn give_up<I, O, G>(service: Service, ends: Ends<'_, I, O, G>) -> u8
+fn give_up<W: Drop>(service: Service, listener: TcpListener, record: Option<Record<W>>) -> u8
     ensures { IsEnd result }
 {
     drop(service);
-    drop(ends);
+    drop(listener);
+    drop(record);
     ServerError::Listener.status()
 }
 
@@ -133,15 +124,16 @@ fn run_scope<
     I: Read,
     O: Write,
     E: Write + Send + Drop,
+    W: Write + OpenFile + Send + Drop,
     G: Gate + Sync,
 >(
     rt: &R,
     alloc: Global,
     service: Service,
-    ends: Ends<'_, I, O, G>,
-    errors: E,
-    queue: &LogQueue,
-    lines: Lines,
+    ends: Ends<'_, I, O>,
+    gate: &G,
+    record: Option<Record<W>>,
+    writing: Writing<'_, E>,
 ) -> u8
     requires { (1 ≤ service.workers) × (service.workers ≤ WORKERS) }
     ensures { IsEnd result }
@@ -152,7 +144,7 @@ fn run_scope<
         move |scope| -> u8
             requires { (1 ≤ service.workers) × (service.workers ≤ WORKERS) }
             ensures { IsEnd result }
-        { run_beside(scope, rt, alloc, service, ends, errors, queue, lines) },
+        { run_beside(scope, rt, alloc, service, ends, gate, record, writing) },
     )
 }
 
@@ -181,27 +173,41 @@ fn run_beside<
     I: Read,
     O: Write,
     E: Write + Send + Drop + 'e,
+    W: Write + OpenFile + Send + Drop,
     G: Gate + Sync,
 >(
     scope: &Scope<'s, &'e ()>,
     rt: &'e R,
     alloc: Global,
     service: Service,
-    ends: Ends<'_, I, O, G>,
-    errors: E,
-    queue: &'e LogQueue,
-    lines: Lines,
+    ends: Ends<'_, I, O>,
+    gate: &G,
+    record: Option<Record<W>>,
+    writing: Writing<'e, E>,
 ) -> u8
     requires { (1 ≤ service.workers) × (service.workers ≤ WORKERS) }
     ensures { IsEnd result }
 {
+    let Writing {
+        errors,
+        queue,
+        lines,
+    } = writing;
+    let Ends {
+        listener,
+        input,
+        output,
+    } = ends;
     match start_writer(scope, rt, errors, queue, lines) {
         Some(writer) => {
-            let status = run_reported(rt, alloc, service, ends, queue);
+            let reporter = Reporter { gate, log: queue };
+            let status = run_recorded(
+                rt, alloc, service, listener, input, output, &reporter, record,
+            );
             queue.end();
             writer.join(rt);
             status
         }
-        None => give_up(service, ends),
+        None => give_up(service, listener, record),
     }
 }

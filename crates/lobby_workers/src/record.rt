@@ -16,12 +16,15 @@ pub use files::RecordFiles;
 pub use queue::RecordQueue;
 use record_lines::Masks;
 pub use recorder::Recorder;
+use server_log::ShortText;
 
 /// A record that begins.
 #[derive(Drop)]
 pub struct Record<W> {
     /// What is left out of it.
     pub masks: Masks,
+    /// The folder in which it is written, as operators are told it.
+    pub folder: ShortText,
     /// Where it is written.
     pub files: RecordFiles<W>,
 }

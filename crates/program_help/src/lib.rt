@@ -2,12 +2,33 @@
 #![tactic(auto)]
 
 use std::alloc::AllocError;
-use std::env;
-use std::io::ErrorKind;
-use std::rt::Env;
+use std::fs::File;
+use std::io::{ErrorKind, Read, Seek, SeekFrom};
+use std::rt::{Env, Files};
+use std::{env, str};
 
 /// The version of all programs: the newest numbered one in CHANGELOG.
 pub const VERSION: &str = "0.1.0";
+
+/// How many bytes a build that is no release appends to a program, and how they begin. Its version is behind that, and
+/// then spaces. So a proof need not be made anew for each commit.
+const TAIL: usize = 96;
+
+const TAIL_BEGINS: &str = "\nrudderraisin version ";
+
+/// The version that stands behind the program itself. None for a release, or where the system does not let it read
+/// itself.
+fn appended_version<'a, R: Files>(rt: &R, tail: &'a mut [u8; TAIL]) -> Option<&'a str> {
+    let mut program = File::open(rt, "/proc/self/exe").ok()?;
+    let read = match program.seek(SeekFrom::End(-(TAIL as i64))) {
+        Ok(_) => program.read_exact(tail),
+        Err(error) => Err(error),
+    };
+    drop(program);
+    read.ok()?;
+    let text = str::from_utf8(tail).ok()?;
+    Some(text.strip_prefix(TAIL_BEGINS)?.trim_end())
+}
 
 /// What a program is asked of itself.
 #[derive(Clone, Copy, PartialEq, Eq, Debug)]
@@ -31,7 +52,7 @@ impl Question {
 
 /// Answers on standard output where the program's only argument is `--help` or `--version`, and says whether it was. A
 /// print that fails is ignored. Fails only where memory for the arguments is refused.
-pub fn answers<R: Env + Print + AllocGlobal>(
+pub fn answers<R: Files + Env + Print + AllocGlobal>(
     rt: &R,
     name: &str,
     help: &str,
@@ -50,7 +71,11 @@ pub fn answers<R: Env + Print + AllocGlobal>(
     };
     let _ = match question {
         Question::Help => println!(rt; "{help}"),
-        Question::Version => println!(rt; "{name} {VERSION}"),
+        Question::Version => {
+            let mut tail = [0; TAIL];
+            let version = appended_version(rt, &mut tail).unwrap_or(VERSION);
+            println!(rt; "{name} {version}")
+        }
     };
     Ok(true)
 }

@@ -19,10 +19,13 @@ is_forced Stop = false
 -- all but logins and the log outs that clients bring about in good order
 abbrev pub is_important : Happening → Bool
 is_important (happening.Started started) = true
-is_important (happening.Login client name) = false
-is_important (happening.Denied client name reason) = true
+is_important (happening.RecordStarted folder) = true
+is_important (happening.RecordEnded reason place) = true
+is_important (happening.Login client name ip) = false
+is_important (happening.Denied client name reason ip) = true
+is_important (happening.DeniedMore client count ip) = true
 is_important (happening.Logout client name cause) = is_forced cause
-is_important (happening.Refused reason) = true
+is_important (happening.Refused reason ip) = true
 is_important (happening.MemoryRefused worker) = true
 is_important (happening.Reserve state) = true
 is_important (happening.Stopped worker events) = true

@@ -1,7 +1,8 @@
 //! What operators are told of.
 
 ghost use Rattle.std.specs.Prelude.{◌≡◌};
-ghost use Rattle.server_log.specs.Fields.{cause_word, denial_word, refusal_word, reserve_word, word_of};
+ghost use Rattle.server_log.specs.Fields.{cause_word, denial_word, record_end_word, refusal_word, reserve_word};
+ghost use Rattle.server_log.specs.Fields.{word_of};
 
 use crate::text::ShortText;
 
@@ -46,6 +47,8 @@ pub enum Refusal {
     System,
     /// Its worker has not looked after those that wait for it.
     Busy,
+    /// It comes from a front, and does not begin with the line by which a front says for whom it is.
+    Front,
 }
 
 /// How the reserve of memory stands.
@@ -55,6 +58,25 @@ pub enum ReserveState {
     Gone,
     /// It is there again.
     Whole,
+}
+
+/// Why a record ended.
+#[derive(Clone, Copy, PartialEq, Eq, Debug)]
+pub enum RecordEnd {
+    /// The server stopped.
+    Stop,
+    /// Events came faster than they were written.
+    Full,
+    /// A file took nothing more.
+    Disk,
+    /// Memory was refused.
+    Memory,
+    /// The history has come to the last place that can be told.
+    LastPlace,
+    /// A number of a client or of bytes has more than 32 bits.
+    Number,
+    /// No line says the event.
+    Line,
 }
 
 /// What a server is that has started.
@@ -79,16 +101,33 @@ pub struct Started {
 pub enum Happening {
     /// The server listens.
     Started(Started),
-    /// A client logged in.
+    /// The server writes a record into this folder.
+    RecordStarted {
+        folder: ShortText,
+    },
+    /// The record has ended. This is the last place of the history that is known to be written, if there is one.
+    RecordEnded {
+        reason: RecordEnd,
+        place: Option<u64>,
+    },
+    /// A client logged in, which connected from this address.
     Login {
         client: u64,
         name: ShortText,
+        ip: [u8; 4],
     },
-    /// A client was not let in.
+    /// A client was not let in, which connected from this address.
     Denied {
         client: u64,
         name: ShortText,
         reason: Denial,
+        ip: [u8; 4],
+    },
+    /// A client has gone that was not let in so often more than was told of it.
+    DeniedMore {
+        client: u64,
+        count: u64,
+        ip: [u8; 4],
     },
     /// A user is no longer logged in.
     Logout {
@@ -96,8 +135,11 @@ pub enum Happening {
         name: ShortText,
         cause: Cause,
     },
-    /// A connection was refused.
-    Refused(Refusal),
+    /// A connection was refused, from this address if it is known.
+    Refused {
+        reason: Refusal,
+        ip: Option<[u8; 4]>,
+    },
     /// Memory was refused to a worker, which tries again. It is told once until the worker gets what it asks for.
     MemoryRefused {
         worker: u8,
@@ -169,6 +211,24 @@ impl Refusal {
             Refusal::Memory => "memory",
             Refusal::System => "system",
             Refusal::Busy => "busy",
+            Refusal::Front => "front",
+        }
+    }
+}
+
+impl RecordEnd {
+    /// The word of a line.
+    pub(crate) fn word(self) -> &'static str
+        ensures { result.now ≡ record_end_word self }
+    {
+        match self {
+            RecordEnd::Stop => "stop",
+            RecordEnd::Full => "full",
+            RecordEnd::Disk => "disk",
+            RecordEnd::Memory => "memory",
+            RecordEnd::LastPlace => "last_place",
+            RecordEnd::Number => "number",
+            RecordEnd::Line => "line",
         }
     }
 }
@@ -192,10 +252,13 @@ impl Happening {
     {
         match self {
             Happening::Started(_) => "started",
+            Happening::RecordStarted { .. } => "record_started",
+            Happening::RecordEnded { .. } => "record_ended",
             Happening::Login { .. } => "login",
             Happening::Denied { .. } => "denied",
+            Happening::DeniedMore { .. } => "denied_more",
             Happening::Logout { .. } => "logout",
-            Happening::Refused(_) => "refused",
+            Happening::Refused { .. } => "refused",
             Happening::MemoryRefused { .. } => "memory_refused",
             Happening::Reserve(_) => "reserve",
             Happening::Stopped { .. } => "stopped",

@@ -41,8 +41,11 @@ impl Happening {
                 Cause::TooSlow | Cause::LineTooLong | Cause::Fault => true,
             },
             Happening::Started(_)
+            | Happening::RecordStarted { .. }
+            | Happening::RecordEnded { .. }
             | Happening::Denied { .. }
-            | Happening::Refused(_)
+            | Happening::DeniedMore { .. }
+            | Happening::Refused { .. }
             | Happening::MemoryRefused { .. }
             | Happening::Reserve(_)
             | Happening::Stopped { .. }

@@ -9,7 +9,7 @@ mod level;
 mod line;
 mod text;
 
-pub use happening::{Cause, Denial, Happening, Refusal, ReserveState, Started};
+pub use happening::{Cause, Denial, Happening, RecordEnd, Refusal, ReserveState, Started};
 pub use level::LogLevel;
 pub use line::print;
 pub use text::ShortText;

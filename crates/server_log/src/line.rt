@@ -3,9 +3,9 @@
 ghost use Rattle.std.specs.Prelude.{◌≡◌, ◌∷◌, [], ◌++◌, codes, decimal, OnOk};
 ghost use Rattle.std.specs.List.{flat_map};
 ghost use Rattle.server_log.specs.Lines.{IsOneLine, field, harmless, harmless_byte, hex, is_plain};
-ghost use Rattle.server_log.specs.Fields.{fields_of, line_of};
+ghost use Rattle.server_log.specs.Fields.{fields_of, ip_fields, ip_text, line_of, place_word, refusal_word};
 
-use crate::happening::{Happening, Started};
+use crate::happening::{Happening, Refusal, Started};
 use crate::text::ShortText;
 use itoa::Buffer;
 use std::alloc::AllocError;
@@ -27,18 +27,22 @@ fn put_fields(out: &mut Vec<u8>, happening: &Happening) -> Result<(), AllocError
 {
     match happening {
         Happening::Started(started) => put_started(out, started),
-        Happening::Login { client, name } => put_named(out, name, *client),
+        Happening::RecordStarted { folder } => put_text(out, "folder", folder),
+        Happening::RecordEnded { reason, place } => put_ended(out, reason.word(), *place),
+        Happening::Login { client, name, ip } => put_named(out, name, *client, *ip),
         Happening::Denied {
             client,
             name,
             reason,
-        } => put_outcome(out, name, ("reason", reason.word()), *client),
+            ip,
+        } => put_denied(out, name, reason.word(), *client, *ip),
+        Happening::DeniedMore { client, count, ip } => put_denied_more(out, *count, *client, *ip),
         Happening::Logout {
             client,
             name,
             cause,
         } => put_outcome(out, name, ("cause", cause.word()), *client),
-        Happening::Refused(reason) => put_only(out, "reason", reason.word()),
+        Happening::Refused { reason, ip } => put_refused(out, *reason, *ip),
         Happening::MemoryRefused { worker } => put_count(out, "worker", u64::from(*worker)),
         Happening::Reserve(state) => put_only(out, "state", state.word()),
         Happening::Stopped { worker, events } => put_stopped(out, *worker, *events),
@@ -72,14 +76,79 @@ fn put_sizes(out: &mut Vec<u8>, started: &Started) -> Result<(), AllocError>
     Ok(())
 }
 
-/// Appends a client's name and number.
-fn put_named(out: &mut Vec<u8>, name: &ShortText, client: u64) -> Result<(), AllocError>
+/// Appends a client's name, its number and where it comes from.
+fn put_named(
+    out: &mut Vec<u8>,
+    name: &ShortText,
+    client: u64,
+    ip: [u8; 4],
+) -> Result<(), AllocError>
     ensures { OnOk result (out.new.items
-        ≡ out.old.items ++ flat_map field ((codes "name", name.now) ∷ (codes "client", decimal client) ∷ [])) }
+        ≡ out.old.items ++ flat_map field ((codes "name", name.now) ∷ (codes "client", decimal client)
+        ∷ (codes "ip", ip_text ip) ∷ [])) }
 {
     put_field(out, "name", name.as_slice())?;
     put_number(out, "client", client)?;
+    put_ip(out, ip)?;
     Ok(())
+}
+
+/// Appends the name that a client asked for, why it was denied, and the client.
+fn put_denied(
+    out: &mut Vec<u8>,
+    name: &ShortText,
+    reason: &str,
+    client: u64,
+    ip: [u8; 4],
+) -> Result<(), AllocError>
+    ensures { OnOk result (out.new.items
+        ≡ out.old.items ++ flat_map field ((codes "name", name.now) ∷ (codes "reason", reason.now)
+        ∷ (codes "client", decimal client) ∷ (codes "ip", ip_text ip) ∷ [])) }
+{
+    put_outcome(out, name, ("reason", reason), client)?;
+    put_ip(out, ip)?;
+    Ok(())
+}
+
+/// Appends how often more a client was denied, and the client.
+fn put_denied_more(
+    out: &mut Vec<u8>,
+    count: u64,
+    client: u64,
+    ip: [u8; 4],
+) -> Result<(), AllocError>
+    ensures { OnOk result (out.new.items
+        ≡ out.old.items ++ flat_map field ((codes "count", decimal count) ∷ (codes "client", decimal client)
+        ∷ (codes "ip", ip_text ip) ∷ [])) }
+{
+    put_number(out, "count", count)?;
+    put_number(out, "client", client)?;
+    put_ip(out, ip)?;
+    Ok(())
+}
+
+/// Appends why a connection was refused, and from where it came if that is known.
+fn put_refused(out: &mut Vec<u8>, reason: Refusal, ip: Option<[u8; 4]>) -> Result<(), AllocError>
+    ensures { OnOk result (out.new.items
+        ≡ out.old.items ++ flat_map field ((codes "reason", refusal_word reason) ∷ ip_fields ip)) }
+{
+    put_field(out, "reason", reason.word().as_bytes())?;
+    match ip {
+        Some(ip) => put_ip(out, ip),
+        None => Ok(()),
+    }
+}
+
+/// Appends why a record ended, and the last place that it has.
+fn put_ended(out: &mut Vec<u8>, reason: &str, place: Option<u64>) -> Result<(), AllocError>
+    ensures { OnOk result (out.new.items
+        ≡ out.old.items ++ flat_map field ((codes "reason", reason.now) ∷ (codes "place", place_word place) ∷ [])) }
+{
+    put_field(out, "reason", reason.as_bytes())?;
+    match place {
+        Some(place) => put_number(out, "place", place),
+        None => put_field(out, "place", b"none"),
+    }
 }
 
 /// Appends a client's name, what became of it, and its number.
@@ -105,6 +174,14 @@ fn put_only(out: &mut Vec<u8>, key: &str, value: &str) -> Result<(), AllocError>
     ensures { OnOk result (out.new.items ≡ out.old.items ++ flat_map field ((key.now, value.now) ∷ [])) }
 {
     put_field(out, key, value.as_bytes())?;
+    Ok(())
+}
+
+/// Appends the only field of a happening, a text.
+fn put_text(out: &mut Vec<u8>, key: &str, text: &ShortText) -> Result<(), AllocError>
+    ensures { OnOk result (out.new.items ≡ out.old.items ++ flat_map field ((key.now, text.now) ∷ [])) }
+{
+    put_field(out, key, text.as_slice())?;
     Ok(())
 }
 
@@ -135,6 +212,27 @@ fn put_number(out: &mut Vec<u8>, key: &str, n: u64) -> Result<(), AllocError>
 {
     put_key(out, key)?;
     put_decimal(out, n)
+}
+
+/// Appends the field of an address.
+#[tactic(auto, unfolding(crate::specs::Lines::field, crate::specs::Lines::harmless))]
+fn put_ip(out: &mut Vec<u8>, ip: [u8; 4]) -> Result<(), AllocError>
+    ensures { OnOk result (out.new.items ≡ out.old.items ++ field (codes "ip", ip_text ip)) }
+{
+    put_key(out, "ip")?;
+    put_decimal(out, u64::from(ip[0]))?;
+    put_octet(out, ip[1])?;
+    put_octet(out, ip[2])?;
+    put_octet(out, ip[3])
+}
+
+/// Appends a further number of an address, behind its dot.
+#[tactic(auto, unfolding(crate::specs::Lines::harmless))]
+fn put_octet(out: &mut Vec<u8>, octet: u8) -> Result<(), AllocError>
+    ensures { OnOk result (out.new.items ≡ out.old.items ++ harmless (46 ∷ decimal octet)) }
+{
+    put_byte(out, b'.')?;
+    put_decimal(out, u64::from(octet))
 }
 
 /// Appends a field.

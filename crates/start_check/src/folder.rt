@@ -22,7 +22,15 @@ fn write_once<R: Files>(rt: &R, name: &str) -> io::Result<()> {
     removed
 }
 
-/// Says whether a file can be made and written in the folder of a record, and where the record will be; whether it can.
+/// Whether the names in a folder can be read: by them a record gets its number.
+fn list<R: Files>(rt: &R, folder: &str) -> io::Result<()> {
+    let names = rt.open_dir(folder)?;
+    drop(names);
+    Ok(())
+}
+
+/// Says whether a file can be made and written in the folder of a record, and its names be read, and where the record
+/// will be; whether it can.
 pub fn try_folder<R: Files + Print + AllocGlobal>(rt: &R, folder: &str, private: bool) -> bool {
     let Ok(name) = format!(in rt.alloc(); "{folder}/{NAME}") else {
         let _ = println!(rt; "record: no memory");
@@ -30,18 +38,17 @@ pub fn try_folder<R: Files + Print + AllocGlobal>(rt: &R, folder: &str, private:
     };
     // One that was left behind by a run that was killed.
     let _ = fs::remove_file(rt, name.as_str());
-    let talk = if private { "with" } else { "without" };
-    match write_once(rt, name.as_str()) {
-        Ok(()) => {
-            let _ = println!(rt;
-                "record: in a new folder of {folder} at each start, {talk} private talk"
-            );
-            true
-        }
-        Err(error) => {
-            let kind = error.kind();
-            let _ = println!(rt; "record: {folder}: no file can be written there: {kind}");
-            false
-        }
+    if let Err(error) = write_once(rt, name.as_str()) {
+        let kind = error.kind();
+        let _ = println!(rt; "record: {folder}: no file can be written there: {kind}");
+        return false;
     }
+    if let Err(error) = list(rt, folder) {
+        let kind = error.kind();
+        let _ = println!(rt; "record: {folder}: what is in it cannot be listed: {kind}");
+        return false;
+    }
+    let talk = if private { "with" } else { "without" };
+    let _ = println!(rt; "record: in a new folder of {folder} at each start, {talk} private talk");
+    true
 }

@@ -7,7 +7,7 @@ use anyhow::{Error, anyhow};
 use client_view::{View, ViewError};
 use std::alloc::Global;
 use std::io::{BufWriter, ErrorKind, Read, Write};
-use std::rt::Env;
+use std::rt::{Env, Files};
 use std::{env, io};
 use view_text::show;
 
@@ -97,7 +97,7 @@ fn print<R: Print + AllocGlobal>(rt: &R, view: &View) -> Result<(), Error> {
     Ok(())
 }
 
-fn run<R: Env + Input + Print + AllocGlobal>(rt: &R) -> Result<(), Error> {
+fn run<R: Env + Files + Input + Print + AllocGlobal>(rt: &R) -> Result<(), Error> {
     if program_help::answers(rt, "view_show", HELP)? {
         return Ok(());
     }

@@ -9,7 +9,7 @@ use crate::inboxes::{Arrival, Inboxes};
 use crate::leaving::{go_on_from_reserve, is_leaving};
 use crate::reserve::Reserve;
 use crate::wakers::Wakers;
-use lobby_connections::{Connection, Connections, NAMES_IN_HOLD, Newcomers};
+use lobby_connections::{Connection, Connections, Fronted, NAMES_IN_HOLD, Newcomers};
 use lobby_lock::{Desk, Held, Pass};
 use lobby_machine::{OpenError, Wakes};
 use lobby_model::WORKERS;
@@ -65,18 +65,52 @@ pub fn adopt<R: Wait, G: Gate>(
 {
     let Arrival { stream, ip } = arrival;
     let Some(link) = connections.prepare(registry, stream) else {
-        shared.gate.tell(Happening::Refused(Refusal::Memory));
+        tell_unserved(shared.gate, Refusal::Memory, ip);
         return pass;
     };
     let (pass, opened) = open(rt, shared, pass, ip);
     match opened {
-        Ok(client) => connections.put(client, link),
+        Ok(client) => connections.put(client, ip, link),
         Err(error) => {
             drop(link);
-            shared.gate.tell(Happening::Refused(refusal_of(error)));
+            tell_unserved(shared.gate, refusal_of(error), ip);
         }
     }
     pass
+}
+
+/// Takes in what came of a connection of a front: its client, or operators are told of a line that is none.
+pub(crate) fn adopt_fronted<R: Wait, G: Gate>(
+    rt: &R,
+    shared: &Shared<'_, G>,
+    pass: Pass,
+    connections: &mut Connections,
+    registry: &Registry,
+    fronted: Fronted,
+) -> Pass
+    requires { pass.desk ≡ shared.now.desk.now }
+    ensures desk { result.desk ≡ pass.desk }
+    ensures number { result.worker.number ≡ pass.worker.number }
+{
+    match fronted {
+        Fronted::Client { stream, ip } => {
+            let arrival = Arrival::new(stream, ip);
+            adopt(rt, shared, pass, connections, registry, arrival)
+        }
+        Fronted::Refused { ip } => {
+            tell_unserved(shared.gate, Refusal::Front, ip);
+            pass
+        }
+        Fronted::Nothing => pass,
+    }
+}
+
+/// Tells operators that a connection from this address was closed.
+pub(crate) fn tell_unserved<G: Gate>(gate: &G, reason: Refusal, ip: [u8; 4]) {
+    gate.tell(Happening::Refused {
+        reason,
+        ip: Some(ip),
+    });
 }
 
 /// Why a client is refused, as operators are told it.
@@ -150,16 +184,21 @@ fn turn_within<R: Wait, G: Gate>(
 }
 
 /// Tells operators of the log out where a turn shut its client: by this cause where neither client nor link gave one.
+/// How many denials were not told of it is told too.
 pub(crate) fn tell_logout<G: Gate>(
     gate: &G,
     connection: &Connection,
     state: TurnState,
     otherwise: Cause,
 ) {
-    if state == TurnState::Closed
-        && let Some(logout) = connection.conn.logout(&connection.link, otherwise)
-    {
+    if state != TurnState::Closed {
+        return;
+    }
+    if let Some(logout) = connection.conn.logout(&connection.link, otherwise) {
         gate.tell(logout);
+    }
+    if let Some(denied) = connection.conn.denied_more() {
+        gate.tell(denied);
     }
 }
 
@@ -188,14 +227,8 @@ pub fn turn_told<R: Wait, G: Gate>(
     ensures number { result.worker.number ≡ pass.worker.number }
 {
     if Newcomers::has(token) {
-        return match newcomers.turn(registry, token) {
-            Some(found) => {
-                let (stream, ip) = found;
-                let arrival = Arrival::new(stream, ip);
-                adopt(rt, shared, pass, connections, registry, arrival)
-            }
-            None => pass,
-        };
+        let fronted = newcomers.turn(registry, token);
+        return adopt_fronted(rt, shared, pass, connections, registry, fronted);
     }
     if connections.discard_input(registry, token) {
         return pass;

@@ -185,7 +185,7 @@ impl WorkerLoop {
                     let ip = ip_of(address);
                     match inboxes.put(rt, self.accepted, Arrival { stream, ip }) {
                         Some(worker) => wakers.wake(worker),
-                        None => gate.tell(Happening::Refused(Refusal::Busy)),
+                        None => turns::tell_unserved(gate, Refusal::Busy, ip),
                     }
                     self.accepted = self.accepted.wrapping_add(1);
                     self.is_stuck = false;
@@ -199,7 +199,10 @@ impl WorkerLoop {
                     ErrorKind::Interrupted => {}
                     _ => {
                         if !self.is_stuck {
-                            gate.tell(Happening::Refused(refusal_of(&error)));
+                            gate.tell(Happening::Refused {
+                                reason: refusal_of(&error),
+                                ip: None,
+                            });
                         }
                         self.is_stuck = true;
                         self.connections.hurry(PollTimeout::Short);
@@ -251,14 +254,8 @@ impl WorkerLoop {
             return turns::adopt(rt, shared, pass, connections, registry, arrival);
         }
         let Arrival { stream, ip } = arrival;
-        match self.newcomers.begin(registry, stream, ip) {
-            Some(found) => {
-                let (stream, ip) = found;
-                let arrival = Arrival::new(stream, ip);
-                turns::adopt(rt, shared, pass, connections, registry, arrival)
-            }
-            None => pass,
-        }
+        let fronted = self.newcomers.begin(registry, stream, ip);
+        turns::adopt_fronted(rt, shared, pass, connections, registry, fronted)
     }
 
     /// Gives turns to those of whom the last poll told, takes connections whose line is whole, and lets go what came

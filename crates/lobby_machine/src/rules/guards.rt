@@ -2,7 +2,7 @@
 //! refusals are those of docs/PROTOCOL.md, "The texts".
 
 ghost use Rattle.std.specs.List.{IsDistinct};
-ghost use Rattle.std.specs.Prelude.{◌≡◌, true, false, Ok, IfOk, IfErr, is_ok, is_some};
+ghost use Rattle.std.specs.Prelude.{◌≡◌, true, false, Ok, IfOk, IfErr, IfSome, None, is_ok, is_some};
 ghost use Rattle.account_book.specs.Book.{login};
 ghost use Rattle.line_words.specs.Table.{at_name, is_among, same_name};
 ghost use Rattle.channel_book.specs.Channels.{names_in};
@@ -17,6 +17,22 @@ use line_words::{NameBuf, WordBuf};
 use lobby_maps::Maps;
 use lobby_post::ClientKey;
 
+/// The account that a login is for. None where its name or its password word is of no account.
+pub fn account_of<'a>(
+    maps: &'a Maps,
+    user_name: &WordBuf,
+    password: &WordBuf,
+) -> Option<&'a Account>
+    ensures some { IfSome result (λ account.
+        login maps.now.plain.accounts user_name.now password.now ≡ Ok account.now) }
+    ensures none { result ≡ None → is_ok (login maps.now.plain.accounts user_name.now password.now) ≡ false }
+{
+    let found = maps
+        .accounts()
+        .check(user_name.as_slice(), password.as_slice());
+    found.ok()
+}
+
 /// The account that a login is for.
 pub fn account_for<'a>(
     maps: &'a Maps,
@@ -27,10 +43,22 @@ pub fn account_for<'a>(
     ensures err { IfErr result (Refuses InvalidLogin (is_ok (login maps.now.plain.accounts user_name.now password.now)
         ≡ false)) }
 {
-    let found = maps
-        .accounts()
-        .check(user_name.as_slice(), password.as_slice());
-    or_refuse(found.ok(), Refusal::InvalidLogin)
+    or_refuse(account_of(maps, user_name, password), Refusal::InvalidLogin)
+}
+
+/// The name of an account. None where a user of that name is logged in.
+pub fn name_if_free(maps: &Maps, account: &Account) -> Option<NameBuf>
+    ensures some { IfSome result (λ name. (name ≡ account.now.name)
+        × (is_some (at_name maps.now.plain.users account.now.name) ≡ false)) }
+    ensures none { result ≡ None → is_some (at_name maps.now.plain.users account.now.name) ≡ true }
+{
+    let Some(name) = NameBuf::of(account.name()) else {
+        unreachable!();
+    };
+    if maps.has_user(&name) {
+        return None;
+    }
+    Some(name)
 }
 
 /// The name of an account, under which nobody is logged in.
@@ -39,9 +67,7 @@ pub fn free_name(maps: &Maps, account: &Account) -> Result<NameBuf, Stop>
         × (is_some (at_name maps.now.plain.users account.now.name) ≡ false)) }
     ensures err { IfErr result (Refuses UserIsIn (is_some (at_name maps.now.plain.users account.now.name) ≡ true)) }
 {
-    let name = NameBuf::copy_of(maps.alloc(), account.name())?;
-    refuse_if(maps.has_user(&name), Refusal::UserIsIn)?;
-    Ok(name)
+    or_refuse(name_if_free(maps, account), Refusal::UserIsIn)
 }
 
 /// Who is in a channel, a user among them.

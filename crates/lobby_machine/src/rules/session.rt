@@ -15,9 +15,11 @@ ghost use Rattle.lobby_battles.specs.Battles.{IsOnly};
 ghost use Rattle.lobby_maps.specs.Changes.{first_of, parts};
 ghost use Rattle.battle_rules.specs.BattleTalk.{left_battle_letters};
 ghost use Rattle.lobby_battles.specs.OnlineUsers.{plain_user};
+ghost use Rattle.lobby_machine.specs.Logins.{AnswersWith};
 
 use super::channels::tell_left;
-use super::guards::{account_for, free_name};
+use super::guards::{account_for, account_of, free_name, name_if_free};
+use crate::login_answer::LoginAnswer;
 use account_book::Account;
 use battle_rules::battles::{Leaving, tell_leaving};
 use battle_rules::{Issuer, Stop};
@@ -60,6 +62,29 @@ pub fn log_in(
     maps.tell_burst(&name, &online_user, post)?;
     maps.tell_arrival(&name, &online_user, post)?;
     Ok(Change::LogIn { name, online_user })
+}
+
+/// How a login with this name and this password word is answered.
+pub fn login_answer(
+    maps: &Maps,
+    client: u64,
+    me: Option<&NameBuf>,
+    user_name: &WordBuf,
+    password: &WordBuf,
+) -> LoginAnswer
+    requires { option_copied me ≡ name_of maps.now.plain client }
+    ensures { AnswersWith maps.now.plain client user_name.now password.now result }
+{
+    if me.is_some() {
+        return LoginAnswer::Again;
+    }
+    let Some(account) = account_of(maps, user_name, password) else {
+        return LoginAnswer::Invalid;
+    };
+    match name_if_free(maps, account) {
+        Some(_) => LoginAnswer::LetIn,
+        None => LoginAnswer::InUse,
+    }
 }
 
 /// `MYSTATUS`: rank, moderator and bot stay those of the account.

@@ -4,6 +4,7 @@ ghost use Rattle.std.specs.Prelude.{◌≤◌, IfOk};
 
 use crate::sockets::running::PATIENCE;
 use lobby_workers::{Masks, Record, RecordFiles};
+use server_log::ShortText;
 use std::fs::{Metadata, OpenFile};
 use std::io::{self, ErrorKind, Write};
 use std::sync::atomic::{AtomicBool, AtomicU64, Ordering};
@@ -80,7 +81,11 @@ impl Disk {
             return None;
         }
         files.keep_spare(DiskFile { disk: self });
-        Some(Record { masks, files })
+        Some(Record {
+            masks,
+            folder: ShortText::of(b"1"),
+            files,
+        })
     }
 
     /// Waits until it may go on.

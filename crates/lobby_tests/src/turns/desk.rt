@@ -85,7 +85,7 @@ fn log_in_and_read<R: Wait>(
     let mut held = desk.take(rt, pass);
     let position = held.position();
     let client = held.open([10, 0, 0, 2], 1).unwrap_or(0);
-    let wakes = held.say(client, login).ok();
+    let wakes = held.say(client, login).ok().map(|said| said.wakes);
     let mut bytes = [0u8; 256];
     let count = held.drain(client, &mut bytes).count;
     let events = held.count();

@@ -1,6 +1,7 @@
 //! Why a record ends.
 
 use record_lines::RecordFault;
+use server_log::RecordEnd;
 
 /// Why a record ends.
 #[derive(Clone, Copy, PartialEq, Eq, Debug)]
@@ -32,6 +33,19 @@ impl End {
             End::LastPlace => b"end last place\n",
             End::Number => b"end number\n",
             End::Line => b"end line\n",
+        }
+    }
+
+    /// The same, as operators are told it.
+    pub(crate) fn reason(self) -> RecordEnd {
+        match self {
+            End::Stop => RecordEnd::Stop,
+            End::Full => RecordEnd::Full,
+            End::Disk => RecordEnd::Disk,
+            End::Memory => RecordEnd::Memory,
+            End::LastPlace => RecordEnd::LastPlace,
+            End::Number => RecordEnd::Number,
+            End::Line => RecordEnd::Line,
         }
     }
 }

@@ -15,6 +15,8 @@ pub(crate) struct Lines {
     pub(crate) bytes: Vec<u8>,
     // a request's line on its way into a step
     text: Vec<u8>,
+    /// The place of the last event among them.
+    pub(crate) last_place: Option<u64>,
 }
 
 impl Lines {
@@ -23,6 +25,7 @@ impl Lines {
         Lines {
             bytes: Vec::new(alloc),
             text: Vec::new(alloc),
+            last_place: None,
         }
     }
 
@@ -47,6 +50,7 @@ impl Lines {
             return Err(End::Full);
         }
         put_entry(alloc, &mut self.bytes, &mut self.text, masks, made)?;
+        self.last_place = Some(made.place);
         Ok(())
     }
 }

@@ -7,10 +7,12 @@ use crate::record::place::Place;
 use crate::sleep::WriterSleep;
 use lobby_model::MadeEvent;
 use record_lines::Masks;
+use server_log::Happening;
 use std::alloc::{AllocError, Global};
 use std::fs::OpenFile;
 use std::io::Write;
 use std::sync::{OnceLock, Wait};
+use worker_loop::Gate;
 
 /// The milliseconds for which the thread that writes lets lines gather: woken 50 times a second, in place of 10, it
 /// took half of what a record costs.
@@ -126,11 +128,12 @@ impl RecordQueue {
     }
 
     /// Writes what is put to the files of the workers, until nothing more will be or the record ends, and then why it
-    /// ends. It sleeps where nothing is there.
-    pub fn write_until_end<R: Wait, W: Write + OpenFile + Drop>(
+    /// ends, which the gate is told too. It sleeps where nothing is there.
+    pub fn write_until_end<R: Wait, W: Write + OpenFile + Drop, G: Gate>(
         &self,
         rt: &R,
         files: RecordFiles<W>,
+        gate: &G,
     ) {
         let mut files = files;
         for _ in rt.forever() {
@@ -141,11 +144,11 @@ impl RecordQueue {
             match (self.write_waiting(&mut files), end) {
                 (Looked::Ends(end), _) | (Looked::Nothing, Some(end)) => {
                     self.end_by(end);
-                    files.finish(end);
+                    finish(&mut files, end, gate);
                     break;
                 }
                 (Looked::Nothing, None) if is_over => {
-                    files.finish(End::Stop);
+                    finish(&mut files, End::Stop, gate);
                     break;
                 }
                 (Looked::Nothing, None) => self.sleep.sleep(rt),
@@ -170,13 +173,22 @@ impl RecordQueue {
             let Some(lines) = place.take() else {
                 continue;
             };
-            match files.write(worker, lines.bytes) {
+            match files.write(worker, lines) {
                 Ok(()) => looked = Looked::Written,
                 Err(end) => return Looked::Ends(end),
             }
         }
         looked
     }
+}
+
+/// The record ends for this cause: writes that, and has operators told.
+fn finish<W: Write + OpenFile + Drop, G: Gate>(files: &mut RecordFiles<W>, end: End, gate: &G) {
+    files.finish(end);
+    gate.tell(Happening::RecordEnded {
+        reason: end.reason(),
+        place: files.last_place(),
+    });
 }
 
 /// A place for the lines of each worker.

@@ -2,7 +2,7 @@
 
 use crate::record::queue::RecordQueue;
 use lobby_lock::{Made, Pass};
-use server_log::Happening;
+use server_log::{Happening, ShortText};
 use worker_loop::Gate;
 
 /// A gate that also puts what is recorded.
@@ -12,6 +12,8 @@ pub struct Recorder<'a, G> {
     pub gate: &'a G,
     /// Where it puts.
     pub queue: &'a RecordQueue,
+    /// The folder of the record.
+    pub folder: &'a ShortText,
 }
 
 impl<G: Gate> Gate for Recorder<'_, G> {
@@ -48,6 +50,9 @@ impl<G: Gate> Gate for Recorder<'_, G> {
 
     fn listening(&self) {
         self.gate.listening();
+        self.gate.tell(Happening::RecordStarted {
+            folder: self.folder.copy(),
+        });
     }
 
     fn tell(&self, happening: Happening) {

@@ -19,6 +19,6 @@ returns-in-Ok-clause-ok g c = λ wire.
       went = went_said c.args.conn.now c.accept.new.self wire (pass_after h) (pass_after k) h.lobby.plain request c.accept.ensures.client c.accept.ensures.unfed c.accept.ensures.unwritten
           c.requires.next (accepts c.args.conn.now.session c.accept.new.self.session request c.accept.ensures.session)
           (joined_more h k (event.Say c.args.conn.now.session.client request) c.requires.stands one);
-      wakes_are = subst (λ (d : ℕ). IsWakes h.lobby.plain (event.Say d request) c.in-Ok.wakes) c.client.ensures c.in-Ok.ensures.wakes;
+      wakes_are = subst (λ (d : ℕ). IsWakes h.lobby.plain (event.Say d request) c.in-Ok.said.wakes) c.client.ensures c.in-Ok.ensures.wakes;
       told_is = sym (subst (λ (d : ℕ). k.lobby.told ≡ told_on h.lobby.told h.lobby.plain (event.Say d request)) c.client.ensures c.in-Ok.ensures.told);
     })

@@ -7,7 +7,6 @@ scoped-requires g c = record {
   at = λ a. (
     c.requires,
     (
-      search rules,
       record { owned = c.type_bounds.send-W.owned; leaving = λ k. search (rules, c.type_bounds.send-W.leaving) },
       record { shared = c.type_bounds.sync-R.shared },
       record { shared = c.type_bounds.sync-G.shared },

@@ -1,4 +1,4 @@
-use Rattle.std.proofs.Common.{◌≡◌, ℕ, ◌≤◌, ◌∙◌, ap, sym, arith, ◌+◌, true, false}
+use Rattle.std.proofs.Common.{◌≡◌, ℕ, ◌≤◌, ◌∙◌, ap, sym, arith, ◌+◌, true}
 use Rattle.std.specs.Prelude.{None, is_some}
 use Rattle.line_words.specs.Table.{at_number}
 use Rattle.lobby_model.specs.declared.event.Event.TheVariants as event
