@@ -4,7 +4,7 @@ SETTINGS ?= examples/lobby.toml
 ACCOUNTS ?= examples/accounts.toml
 
 .DEFAULT_GOAL := help
-.PHONY: help play serve setup hash view build gateway library install uninstall deb test unit fmt check bench memory soak connections record counts hostile
+.PHONY: help play serve setup hash view build gateway library install uninstall deb test unit fmt check tour bench memory soak connections record counts hostile
 
 help: ## lists the targets
 	@awk -F ':.*## ' '/^[a-z]+:.*## / { printf "  make %-12s %s\n", $$1, $$2 }' Makefile
@@ -58,6 +58,9 @@ fmt: ## lays out the crates that you changed
 
 check: ## proves one crate over what earlier runs kept (CRATE=line_words)
 	@cd crates/$(or $(CRATE),$(error give a crate, as make check CRATE=line_words)) && rt check
+
+tour: ## plants a bug and shows how the checker refuses it (docs/PROOF.md)
+	@tools/tour.sh
 
 bench: ## runs the benchmarks
 	@for figures in bench/*.sh; do echo "== $$figures"; $$figures || exit 1; done
