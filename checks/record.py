@@ -11,7 +11,7 @@ a close or a reset, and comes again.
     checks/record.py cost [RUNS [SECONDS [USERS [RATE]]]]  what the server takes of processors with a record and without, in turn
 
 `long` is 4 workers, 1,200 seconds, 300 users and 100 lines a second if left out. In the record of `long` it also searches each word
-of an account. $LOBBY_MAIN and $LOBBY_PLAY name other builds of the programs."""
+of an account: some are sent where no password belongs. $LOBBY_MAIN and $LOBBY_PLAY name other builds of the programs."""
 import base64
 import contextlib
 import errno
@@ -45,6 +45,11 @@ class Owner(Account):
     def login(self, word=None):
         flags = "\t0\tsp b" if self.number % 2 else ""
         return f"LOGIN {self.name} {word or self.word} 0 * Checks 1.0{flags}\n"
+
+    def astray(self, choice):
+        """A login with the word where it does not belong."""
+        word = self.word
+        return choice.choice((f"LOGIN {word} {self.name} 0 * Checks 1.0\n", f"LOGIN {self.name} {word} 0 {word} {word}\t{word}\t{word} b\n"))
 
 
 class Sources(Crowd):
@@ -84,7 +89,9 @@ class Session(Mixed):
         return peer
 
     def login(self, account):
-        """Now and then with the word of another."""
+        """Now and then with the word of another, or with its own out of its place."""
+        if self.choice.random() < 0.1:
+            return account.astray(self.choice)
         other = self.choice.choice(self.accounts) if self.choice.random() < 0.1 else account
         return account.login(other.word)
 
@@ -95,7 +102,8 @@ class Session(Mixed):
             return self.comes_again(at)
         if b"\nLOGININFOEND\n" not in peer.heard and b"DENIED " in peer.heard[-2_000:]:
             self.crowd.send(peer, self.login(peer.account))
-        self.crowd.send(peer, self.speaker.line())
+        is_key = self.choice.random() < 0.01
+        self.crowd.send(peer, f"JOIN {self.speaker.channel()} {peer.account.word}\n" if is_key else self.speaker.line())
         self.lines += 1
         return None
 

@@ -208,8 +208,7 @@ def check_page(folder, _):
 def check_story(folder, record):
     """A page says who did what, and how the room changed."""
     reader = Reader(page_of(folder, "--client", "Ben", "--from", "0"))
-    said_at(reader, record, r"LOGIN Ben B 0 * Checks 1.0\n", "refused:", "logs in as Ben",
-            "Invalid username or password")
+    said_at(reader, record, r"LOGIN Ben B 0 * \n", "refused:", "logs in as Ben", "Invalid username or password")
     said_at(reader, record, r"JOINBATTLE 1 secret myscript\n", "battle 1", "Title <b>", "Comet Catcher", "members: 2",
             "bots: none", "start rectangles: 1", "script tags: 2", "<i>2", "disabled units: 2", "armcom")
     said_at(reader, record, r"MYBATTLESTATUS 4195330 255\n", "ready no → yes", "plays spectator → yes",
@@ -285,11 +284,11 @@ def check_find(folder, record):
     shown = run("find", "Ben", folder)
     rows = [re.sub(r"^ +(by )?\S+ \S+ +", "", it) for it in shown.splitlines()]
     wanted = [f"place {place_of(record, text)}: {words}" for text, words in (
-        (r"LOGIN Ben B 0 * Checks 1.0\n", "client 2 from 127.0.0.3 is denied: Invalid username or password"),
-        (r"send 2 LOGIN Ben AAAAAAAAAAAAAAAAAAAAAA== 0 * Checks 1.0\n", "client 2 from 127.0.0.3 logs in"),
+        (r"LOGIN Ben B 0 * \n", "client 2 from 127.0.0.3 is denied: Invalid username or password"),
+        (r"send 2 LOGIN Ben AAAAAAAAAAAAAAAAAAAAAA== 0 * \n", "client 2 from 127.0.0.3 logs in"),
         (r"HANDICAP Ben 30\n", "Anna: HANDICAP Ben 30"), (r"KICKFROMBATTLE Ben\n", "Anna: KICKFROMBATTLE Ben"),
         (r"shut 2", "client 2 is gone"),
-        (r"send 4 LOGIN Ben AAAAAAAAAAAAAAAAAAAAAA== 0 * Checks 1.0\n", "client 4 from 127.0.0.5 logs in"),
+        (r"send 4 LOGIN Ben AAAAAAAAAAAAAAAAAAAAAA== 0 * \n", "client 4 from 127.0.0.5 logs in"),
         (r"shut 4", "client 4 is gone"))]
     tells("find says when somebody was there, and who named them", rows == [str(record), *wanted],
           f"{rows} and not {wanted}")

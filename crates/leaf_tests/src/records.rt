@@ -21,22 +21,22 @@ static SAID: [Said; 15] = [
     (
         b"#4 LOGIN Anna X03MO1qnZdYdgyfeuILPmQ== 0 * TestLobby 1.0\t7\tb",
         true,
-        b"9 send 3 #4 LOGIN Anna AAAAAAAAAAAAAAAAAAAAAA== 0 * TestLobby 1.0\\t\\tb\\n\n9 take 3\n",
+        b"9 send 3 #4 LOGIN Anna AAAAAAAAAAAAAAAAAAAAAA== 0 * \\t\\tb\\n\n9 take 3\n",
     ),
     (
         b"LOGIN Anna X03MO1qnZdYdgyfeuILPmA== -1 10.0.0.1 x",
         true,
-        b"9 send 3 LOGIN Anna B -1 10.0.0.1 x\\n\n9 take 3\n",
+        b"9 send 3 LOGIN Anna B -1 * \\n\n9 take 3\n",
     ),
     (
         b"LOGIN Anna AAAAAAAAAAAAAAAAAAAAAA== 0 * x",
         true,
-        b"9 send 3 LOGIN Anna B 0 * x\\n\n9 take 3\n",
+        b"9 send 3 LOGIN Anna B 0 * \\n\n9 take 3\n",
     ),
     (
         b"LOGIN Bert X03MO1qnZdYdgyfeuILPmQ== 0 * x",
         true,
-        b"9 send 3 LOGIN Bert B 0 * x\\n\n9 take 3\n",
+        b"9 send 3 LOGIN Bert B 0 * \\n\n9 take 3\n",
     ),
     (
         b"SAYPRIVATE Bert hi there",
@@ -82,17 +82,58 @@ static SAID: [Said; 15] = [
 #[test]
 fn what_was_said_is_written_without_words(rt: HostRuntime) {
     for (line, private, wanted) in &SAID {
-        let told = match read_request(rt.alloc(), line) {
-            Ok(request) => is_recorded_as(
-                rt.alloc(),
-                *private,
-                Event::Say { client: 3, request },
-                0,
-                wanted,
-            ),
-            Err(_) => Err(RecordFault::Memory),
-        };
+        let told = is_said_as(rt.alloc(), line, *private, wanted);
         same_for(&rt, line, told, Ok(true));
+    }
+}
+
+/// A password out of its place, and the lines of the record, which do not have it.
+static ASTRAY: [(&[u8], &[u8]); 7] = [
+    (
+        b"LOGIN X03MO1qnZdYdgyfeuILPmQ== Anna 0 * x",
+        b"9 send 3 LOGIN ? B 0 * \\n\n9 take 3\n",
+    ),
+    (
+        b"LOGIN hunter-2 X03MO1qnZdYdgyfeuILPmQ== 0 * x",
+        b"9 send 3 LOGIN ? B 0 * \\n\n9 take 3\n",
+    ),
+    (
+        b"LOGIN Anna hunter2 -7 hunter2 hunter2",
+        b"9 send 3 LOGIN Anna B -7 * \\n\n9 take 3\n",
+    ),
+    (
+        b"LOGIN Anna X03MO1qnZdYdgyfeuILPmQ== 0 hunter2 hunter2\thunter2\thunter2 b",
+        b"9 send 3 LOGIN Anna AAAAAAAAAAAAAAAAAAAAAA== 0 * \\t\\tb\\n\n9 take 3\n",
+    ),
+    (
+        b"#8 LOGIN Anna X03MO1qnZdYdgyfeuILPmQ== 0 * hunter2\thunter2",
+        b"9 send 3 #8 LOGIN Anna AAAAAAAAAAAAAAAAAAAAAA== 0 * \\n\n9 take 3\n",
+    ),
+    (b"JOIN main hunter2", b"9 send 3 JOIN main\\n\n9 take 3\n"),
+    (b"#6 JOIN main", b"9 send 3 #6 JOIN main\\n\n9 take 3\n"),
+];
+
+#[test]
+fn a_password_out_of_its_place_is_not_written(rt: HostRuntime) {
+    for (line, wanted) in &ASTRAY {
+        let told = is_said_as(rt.alloc(), line, true, wanted);
+        same_for(&rt, line, told, Ok(true));
+    }
+}
+
+/// Whether a line that client 3 said at place 9 is recorded so.
+fn is_said_as(
+    alloc: Global,
+    line: &[u8],
+    private: bool,
+    wanted: &[u8],
+) -> Result<bool, RecordFault> {
+    match read_request(alloc, line) {
+        Ok(request) => {
+            let said = Event::Say { client: 3, request };
+            is_recorded_as(alloc, private, said, 0, wanted)
+        }
+        Err(_) => Err(RecordFault::Memory),
     }
 }
 

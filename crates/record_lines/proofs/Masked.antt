@@ -1,7 +1,7 @@
--- Logins by the words that a record has, and the kinds of what it has in place of words and texts.
-use Rattle.std.proofs.Common.{◌≡◌, ℕ, zero, suc, ◌+◌, ◌<◌, List, [], ◌∷◌, ◌++◌, length, take, Bool, true, false, cond, refl, ap, ◌∙◌}
+-- Logins by the names and words that a record has, and the kinds of what it has in place of words and texts.
+use Rattle.std.proofs.Common.{◌≡◌, ℕ, zero, suc, ◌+◌, ◌<◌, List, [], ◌∷◌, ◌++◌, length, take, Bool, true, false, cond, refl, ap, ◌∙◌, subst}
 use Rattle.std.proofs.Common.{add-one, arith}
-use Rattle.std.specs.Prelude.{Option, Some, None, Result, Ok, Err, is_ok, ◌&&◌, nat_le}
+use Rattle.std.specs.Prelude.{Option, Some, None, Result, Ok, Err, is_ok, ◌&&◌, ◌||◌, nat_le}
 use Rattle.std.specs.Option.{option_map_or}
 use Rattle.std.specs.Str.{bytes_eq}
 use Rattle.std.proofs.lemmas.Bool.{and_parts, and_from}
@@ -11,7 +11,7 @@ use Rattle.account_book.specs.Account.{Account, is_sound, is_password_word, is_c
 use Rattle.account_book.specs.Book.{account_of, login}
 use Rattle.account_book.specs.declared.error.LoginFault.{LoginFault}
 use Rattle.account_book.specs.declared.error.LoginFault.TheVariants.{NoAccount, BadPassword}
-use Rattle.record_lines.specs.Masks.{hidden, all_hidden, hidden_answer, passes, fails, stars, word_for}
+use Rattle.record_lines.specs.Masks.{hidden, all_hidden, hidden_answer, account_let_in, passes, fails, stars, word_for, no_name, name_for}
 
 -- the account of a name, hidden
 abbrev hidden_one : Option Account → Option Account
@@ -54,6 +54,37 @@ same_answer accounts name word =
     ap (λ (o : Option Account). answer o (word_for accounts name word)) (found_hidden name accounts)
     ∙ answered (account_of name accounts) word
 
+-- no account of a record has the word of a login that fails
+none_let_in : (o : Option Account) → account_let_in (answer (hidden_one o) fails) ≡ None
+none_let_in None = refl
+none_let_in (Some a) = refl
+
+-- the account that the accounts of the record let in, by whether the name is one and by what the login was answered
+pub same_account : (accounts : List Account) (name word : List ℕ)
+    → account_let_in (login (all_hidden accounts) (name_for accounts name word) (word_for accounts name word))
+    ≡ account_let_in (hidden_answer (login accounts name word))
+same_account accounts name word = by (is_name name) (login accounts name word) refl
+  where
+    own : (told : Result Account LoginFault) → login accounts name word ≡ told
+        → account_let_in (login (all_hidden accounts) name (word_by told)) ≡ account_let_in (hidden_answer told)
+    own told is =
+        subst (λ (r : Result Account LoginFault). account_let_in (login (all_hidden accounts) name (word_by r)) ≡ account_let_in (hidden_answer r)) is
+        (ap account_let_in (same_answer accounts name word))
+
+    by : (named : Bool) (told : Result Account LoginFault) → login accounts name word ≡ told
+        → account_let_in (login (all_hidden accounts) (cond (named || is_ok told) name no_name) (word_by told))
+        ≡ account_let_in (hidden_answer told)
+    by true told is = own told is
+    by false (Ok a) is = own (Ok a) is
+    by false (Err why) is =
+        ap (λ (o : Option Account). account_let_in (answer o fails)) (found_hidden no_name accounts)
+        ∙ none_let_in (account_of no_name accounts)
+
+pub name_stays : (accounts : List Account) (name word : List ℕ) → is_name name ≡ true
+    → name_for accounts name word ≡ name
+name_stays accounts name word is =
+    ap (λ (b : Bool). cond (b || is_ok (login accounts name word)) name no_name) is
+
 passes_sound : is_password_word passes ≡ true
 unfolding groups_error scan_steps groups_bytes
 passes_sound = refl
@@ -74,6 +105,14 @@ word_kept accounts name word = by (is_ok (login accounts name word))
   where
     by : (t : Bool) → is_word (cond t passes fails) ≡ true
     by true = refl
+    by false = refl
+
+pub name_kept : (accounts : List Account) (name word : List ℕ) → is_word name ≡ true
+    → is_word (name_for accounts name word) ≡ true
+name_kept accounts name word fit = by (is_name name || is_ok (login accounts name word))
+  where
+    by : (t : Bool) → is_word (cond t name no_name) ≡ true
+    by true = fit
     by false = refl
 
 pub stars_kept : (text : List ℕ) → is_text (stars text) ≡ true

@@ -13,6 +13,7 @@ use Rattle.reply_kinds.specs.Replies.{print_all}
 use Rattle.account_book.specs.Account.{Account}
 use Rattle.account_book.specs.Book.{login}
 use Rattle.account_book.specs.declared.error.LoginFault.{LoginFault}
+use Rattle.account_book.specs.declared.error.LoginFault.TheVariants.{NoAccount}
 use Rattle.line_words.specs.Table.{at_number, at_name, same_name, change_number, same_number, map_values}
 use Rattle.line_words.proofs.Tables.{change_alike}
 use Rattle.room_lists.specs.Room.{new_room}
@@ -31,10 +32,10 @@ use Rattle.lobby_model.specs.History.{put_in, taken_in}
 use Rattle.lobby_model.specs.Sound.{Sound}
 use Rattle.lobby_model.proofs.EventsKept.{next_keeps}
 use Rattle.lobby_model.proofs.Inside.{IsInside, StaysInside, leaving_is_inside, answer_stays}
-use Rattle.record_lines.specs.Masks.{all_hidden, hidden_answer, masked_command}
+use Rattle.record_lines.specs.Masks.{account_let_in, all_hidden, hidden_answer, masked_command, name_for, word_for}
 use Rattle.record_lines.specs.Played.{played, played_from, bytes_taken}
 use Rattle.record_lines.proofs.Homed.{homed, phase_homed, drain_homed, put_homed, without_homed, length_homed, live_homed, name_homed, address_homed, put_to_homed, taken_homed, delivered_homed}
-use Rattle.record_lines.proofs.Masked.{same_answer}
+use Rattle.record_lines.proofs.Masked.{same_account}
 
 -- the lobby in which a record is played
 abbrev pub shown : State → State
@@ -123,13 +124,37 @@ module _ (s : State) where
   log_in_same c cpu authorises (Err fault) = refl
   log_in_same c cpu authorises (Ok account) = refl
 
+  -- what a login comes to, by the account that it is let in to
+  abbrev comes_to : ℕ → ℤ → Bool → Option Account → Outcome
+  comes_to c cpu authorises None = log_in (shown s) c cpu authorises (Err NoAccount)
+  comes_to c cpu authorises (Some account) = log_in (shown s) c cpu authorises (Ok account)
+
+  by_account : (c : ℕ) (cpu : ℤ) (authorises : Bool) (told : Result Account LoginFault)
+      → log_in (shown s) c cpu authorises told ≡ comes_to c cpu authorises (account_let_in told)
+  by_account c cpu authorises (Err why) = refl
+  by_account c cpu authorises (Ok account) = refl
+
+  login_same : (c : ℕ) (cpu : ℤ) (authorises : Bool) (name word : List ℕ)
+      → log_in (shown s) c cpu authorises
+      (login (all_hidden s.accounts) (name_for s.accounts name word) (word_for s.accounts name word))
+      ≡ log_in s c cpu authorises (login s.accounts name word)
+  login_same c cpu authorises name word =
+      let told = login s.accounts name word in
+      by_account c cpu authorises
+      (login (all_hidden s.accounts) (name_for s.accounts name word) (word_for s.accounts name word))
+      ∙ ap (comes_to c cpu authorises) (same_account s.accounts name word)
+      ∙ sym (by_account c cpu authorises (hidden_answer told))
+      ∙ log_in_same c cpu authorises told
+
   answer_same : (c : ℕ) (me : Option (List ℕ)) (command : Command)
       → answer (shown s) c me (masked_command s.accounts true command) ≡ answer s c me command
   answer_same c None command.Exit = refl
   answer_same c (Some me) command.Exit = refl
   answer_same c None (command.Login name password cpu local_ip lobby authorises) =
-      ap (log_in (shown s) c cpu authorises) (same_answer s.accounts name password)
-      ∙ log_in_same c cpu authorises (login s.accounts name password)
+      login_same c cpu authorises name password
+  answer_same c (Some me) (command.Login name password cpu local_ip lobby authorises) = refl
+  answer_same c None (command.Join channel key) = refl
+  answer_same c (Some me) (command.Join channel key) = refl
   answer_same c (Some me) (command.OpenBattle battle_type nat_type password port max_players game_hash rank map_hash
       engine_name engine_version map title game_name) =
       ap (λ ip. open_battle s me (record {

@@ -1,8 +1,9 @@
 -- The line of what is written is no longer than one that was read.
 use Rattle.std.proofs.Common.{◌≡◌, ℕ, suc, ◌≤◌, List, [], ◌∷◌, ◌++◌, length, length-append, Bool, true, false, cond}
 use Rattle.std.proofs.Common.{refl, sym, ap, ◌∙◌, arith, inr}
-use Rattle.std.specs.Prelude.{ℤ, Option, Some, Result, Ok, Err, is_ok, ◌&&◌, ◌==◌, nat_le, codes}
+use Rattle.std.specs.Prelude.{ℤ, Option, Some, None, Result, Ok, Err, is_ok, ◌&&◌, ◌||◌, ◌==◌, nat_le, codes}
 use Rattle.std.specs.List.{AllByRecursion, list_all}
+use Rattle.std.specs.Fmt.{signed_decimal}
 use Rattle.std.specs.Option.{option_map_or}
 use Rattle.std.specs.Str.{bytes_eq}
 use Rattle.std.proofs.lemmas.Bool.{and_parts, and_from, eqb-true, leb-true}
@@ -10,13 +11,13 @@ use Rattle.std.proofs.lemmas.Slice.Eq.{bytes_eq-Decides}
 use Rattle.base64.specs.Engines.{standard}
 use Rattle.base64.specs.GeneralPurpose.{decode_of}
 use Rattle.line_words.specs.Bytes.{is_name, is_sentence, is_text, is_word, is_word_byte}
-use Rattle.line_words.specs.Kinds.{is_wide}
+use Rattle.line_words.specs.Kinds.{is_some_word, is_wide}
 use Rattle.command_grammar.specs.declared.command.Command.{Command}
 use Rattle.command_grammar.specs.declared.command.Command.TheVariants as command
 use Rattle.command_grammar.specs.declared.command.Request.{Request}
 use Rattle.command_grammar.specs.Kinds.{keeps_kinds}
 use Rattle.command_grammar.specs.Table.{entry, entries, battle_entries, room_entries, host_entries}
-use Rattle.command_grammar.specs.Table.{login_row, name_and_text}
+use Rattle.command_grammar.specs.Table.{LoginFlags, join_row, login_row, name_and_text}
 use Rattle.command_grammar.proofs.Bounds.{request_keeps}
 use Rattle.account_book.specs.Account.{Account, IsHeld, gives, is_password_word, is_country}
 use Rattle.account_book.specs.Book.{account_of, login}
@@ -24,11 +25,11 @@ use Rattle.account_book.specs.declared.error.LoginFault.{LoginFault}
 use Rattle.account_book.specs.declared.error.LoginFault.TheVariants.{NoAccount, BadPassword}
 use Rattle.reply_kinds.specs.Replies.{id_text}
 use Rattle.request_printer.specs.Faults.{NoneFits, fault_of}
-use Rattle.request_printer.specs.Writing.{HasWord, Writes, argument_text, line_under}
+use Rattle.request_printer.specs.Writing.{HasWord, Writes, argument_text, line_under, written}
 use Rattle.request_printer.proofs.Gaps.{no_fault, no_shorter}
 use Rattle.request_printer.proofs.Lines.{request_reads_back}
-use Rattle.record_lines.specs.Masks.{masked_command, stars, word_for}
-use Rattle.record_lines.proofs.Masked.{stars_kept, word_kept}
+use Rattle.record_lines.specs.Masks.{masked_command, masked_login, name_for, no_address, stars, word_for}
+use Rattle.record_lines.proofs.Masked.{name_kept, stars_kept, word_kept}
 
 -- the word of a login that passes has the bytes of its account's
 sound_length : (a : Account) → IsHeld a → length a.password ≡ 24
@@ -56,6 +57,17 @@ passing (a ∷ accounts) held name word ok = by (bytes_eq name a.name) (passing 
     by true rest ok = at (bytes_eq a.password word) refl ok
     by false rest ok = rest ok
 
+some_bytes : (word : List ℕ) → is_word word ≡ true → 1 ≤ length word
+some_bytes word fit = leb-true 1 (length word) (and_parts (nat_le 1 (length word)) (list_all is_word_byte word) fit).0
+
+name_short : (accounts : List Account) (name word : List ℕ) → is_word name ≡ true
+    → length (name_for accounts name word) ≤ length name
+name_short accounts name word fit = by (is_name name || is_ok (login accounts name word))
+  where
+    by : (t : Bool) → length (let w : List ℕ = cond t name (codes "?") in w) ≤ length name
+    by true = omega arith
+    by false = some_bytes name fit
+
 word_short : (accounts : List Account) → AllByRecursion IsHeld accounts → (name word : List ℕ) → is_word word ≡ true
     → length (word_for accounts name word) ≤ length word
 word_short accounts held name word fit =
@@ -64,9 +76,7 @@ word_short accounts held name word fit =
     by : (t : Bool) → (t ≡ true → length word ≡ 24)
         → length (let w : List ℕ = cond t (codes "AAAAAAAAAAAAAAAAAAAAAA==") (codes "B") in w) ≤ length word
     by true long = let same = long refl in omega arith
-    by false long =
-        let some = leb-true 1 (length word) (and_parts (nat_le 1 (length word)) (list_all is_word_byte word) fit).0 in
-        omega arith
+    by false long = some_bytes word fit
 
 stars_length : (text : List ℕ) → length (stars text) ≡ length text
 stars_length [] = refl
@@ -120,17 +130,21 @@ private_word user text = inr (record {
   made = refl;
 })
 
--- a shorter word in a row
-word_less : (name word other rest : List ℕ) → length other ≤ length word
-    → length ((32 ∷ name) ++ ((32 ∷ other) ++ rest)) ≤ length ((32 ∷ name) ++ ((32 ∷ word) ++ rest))
-word_less name word other rest less =
-    omega (
-      arith,
-      length-append name ((32 ∷ other) ++ rest),
-      length-append name ((32 ∷ word) ++ rest),
-      length-append other rest,
-      length-append word rest,
-    )
+join_word : (channel : List ℕ) (key : Option (List ℕ)) → HasWord (command.Join channel key) (codes "JOIN")
+unfolding entries battle_entries room_entries host_entries
+join_word channel key = inr (record {
+  entry = entry (codes "JOIN") join_row command.Join;
+  named = refl;
+  word_is = refl;
+  values = (channel, (key, tt));
+  made = refl;
+})
+
+-- an argument and what stands behind it, each no longer than another
+no_longer : (first other rest behind : List ℕ) → length other ≤ length first → length behind ≤ length rest
+    → length ((32 ∷ other) ++ behind) ≤ length ((32 ∷ first) ++ rest)
+no_longer first other rest behind less last =
+    omega (arith, less, last, length-append other behind, length-append first rest)
 
 -- what the arguments of a login keep
 record LoginKept (name word ip lobby : List ℕ) (cpu : ℤ) : Type 0 where
@@ -163,16 +177,21 @@ keeps_login name word ip lobby cpu authorises k =
 
 login_still : (accounts : List Account) (name word ip lobby : List ℕ) (cpu : ℤ) (authorises : Bool)
     → keeps_kinds (command.Login name word cpu ip lobby authorises) ≡ true
-    → keeps_kinds (command.Login name (word_for accounts name word) cpu ip lobby authorises) ≡ true
+    → keeps_kinds (masked_login accounts name word cpu authorises) ≡ true
 login_still accounts name word ip lobby cpu authorises h =
     let k = login_kept name word ip lobby cpu authorises h in
-    keeps_login name (word_for accounts name word) ip lobby cpu authorises (record {
-      of_name = k.of_name;
+    keeps_login (name_for accounts name word) (word_for accounts name word) no_address [] cpu authorises (record {
+      of_name = name_kept accounts name word k.of_name;
       of_word = word_kept accounts name word;
       of_cpu = k.of_cpu;
-      of_ip = k.of_ip;
-      of_lobby = k.of_lobby;
+      of_ip = refl;
+      of_lobby = refl;
     })
+
+join_still : (channel : List ℕ) (key : Option (List ℕ)) → keeps_kinds (command.Join channel key) ≡ true
+    → keeps_kinds (command.Join channel None) ≡ true
+join_still channel key h =
+    and_from (is_name channel) true (and_parts (is_name channel) (is_some_word key) h).0 refl
 
 private_still : (user text : List ℕ) (private : Bool) → keeps_kinds (command.SayPrivate user text) ≡ true
     → keeps_kinds (command.SayPrivate user (cond private text (stars text))) ≡ true
@@ -185,20 +204,47 @@ pub masked_keeps : (accounts : List Account) (private : Bool) (c : Command) → 
     → keeps_kinds (masked_command accounts private c) ≡ true
 masked_keeps accounts private (command.Login name word cpu ip lobby authorises) h =
     login_still accounts name word ip lobby cpu authorises h
+masked_keeps accounts private (command.Join channel key) h = join_still channel key h
 masked_keeps accounts private (command.SayPrivate user text) h = private_still user text private h
 masked_keeps accounts private c h = h
 
 module _ (accounts : List Account) (held : AllByRecursion IsHeld accounts) where
+  -- the arguments of a login are no longer as they are written
+  login_short : (name word ip lobby : List ℕ) (cpu : ℤ) (authorises : Bool) → LoginKept name word ip lobby cpu
+      → length (argument_text (masked_login accounts name word cpu authorises))
+      ≤ length (argument_text (command.Login name word cpu ip lobby authorises))
+  login_short name word ip lobby cpu authorises k =
+      let flags : List ℕ = written 32 LoginFlags authorises ++ [] in
+      let number : List ℕ = signed_decimal cpu in
+      let from_lobby = no_longer lobby [] flags flags (omega arith) (omega arith) in
+      let from_ip = no_longer ip no_address ((32 ∷ lobby) ++ flags) ((32 ∷ []) ++ flags) (some_bytes ip k.of_ip) from_lobby in
+      let from_cpu = no_longer number number ((32 ∷ ip) ++ ((32 ∷ lobby) ++ flags))
+      ((32 ∷ no_address) ++ ((32 ∷ []) ++ flags)) (omega arith) from_ip in
+      let from_word = no_longer word (word_for accounts name word)
+      ((32 ∷ number) ++ ((32 ∷ ip) ++ ((32 ∷ lobby) ++ flags)))
+      ((32 ∷ number) ++ ((32 ∷ no_address) ++ ((32 ∷ []) ++ flags))) (word_short accounts held name word k.of_word) from_cpu in
+      no_longer name (name_for accounts name word)
+      ((32 ∷ word) ++ ((32 ∷ number) ++ ((32 ∷ ip) ++ ((32 ∷ lobby) ++ flags))))
+      ((32 ∷ word_for accounts name word) ++ ((32 ∷ number) ++ ((32 ∷ no_address) ++ ((32 ∷ []) ++ flags))))
+      (name_short accounts name word k.of_name) from_word
+
   login_fits : (id : Option ℕ) (name word ip lobby : List ℕ) (cpu : ℤ) (authorises : Bool)
-      → NoneFits (request id (command.Login name (word_for accounts name word) cpu ip lobby authorises))
+      → NoneFits (request id (masked_login accounts name word cpu authorises))
       → NoneFits (request id (command.Login name word cpu ip lobby authorises))
   login_fits id name word ip lobby cpu authorises none =
-      let other = word_for accounts name word in
-      shorter id (command.Login name word cpu ip lobby authorises) (command.Login name other cpu ip lobby authorises)
-      (codes "LOGIN") (login_word name word ip lobby cpu authorises) (login_word name other ip lobby cpu authorises) refl
+      shorter id (command.Login name word cpu ip lobby authorises) (masked_login accounts name word cpu authorises)
+      (codes "LOGIN") (login_word name word ip lobby cpu authorises)
+      (login_word (name_for accounts name word) (word_for accounts name word) no_address [] cpu authorises) refl
       (login_still accounts name word ip lobby cpu authorises)
-      (λ h. let k = login_kept name word ip lobby cpu authorises h in word_less name word other _
-      (word_short accounts held name word k.of_word)) none
+      (λ h. login_short name word ip lobby cpu authorises (login_kept name word ip lobby cpu authorises h)) none
+
+  join_fits : (id : Option ℕ) (channel : List ℕ) (key : Option (List ℕ))
+      → NoneFits (request id (command.Join channel None)) → NoneFits (request id (command.Join channel key))
+  join_fits id channel None none = none
+  join_fits id channel (Some key) none =
+      shorter id (command.Join channel (Some key)) (command.Join channel None) (codes "JOIN")
+      (join_word channel (Some key)) (join_word channel None) refl (join_still channel (Some key))
+      (λ h. no_longer channel channel ((32 ∷ key) ++ []) [] (omega arith) (omega arith)) none
 
   private_fits : (id : Option ℕ) (user text : List ℕ) (private : Bool)
       → NoneFits (request id (command.SayPrivate user (cond private text (stars text))))
@@ -208,12 +254,14 @@ module _ (accounts : List Account) (held : AllByRecursion IsHeld accounts) where
       shorter id (command.SayPrivate user text) (command.SayPrivate user (stars text)) (codes "SAYPRIVATE")
       (private_word user text) (private_word user (stars text)) refl
       (private_still user text false)
-      (λ h. word_less user text (stars text) _ (let same = stars_length text in omega arith)) none
+      (λ h. no_longer user user ((32 ∷ text) ++ []) ((32 ∷ stars text) ++ []) (omega arith)
+      (no_longer text (stars text) [] [] (let same = stars_length text in omega arith) (omega arith))) none
 
   -- where no line that reads as what is written is short enough, none reads as what was said
   pub none_fits : (private : Bool) (id : Option ℕ) (c : Command)
       → NoneFits (request id (masked_command accounts private c)) → NoneFits (request id c)
   none_fits private id (command.Login name word cpu ip lobby authorises) none =
       login_fits id name word ip lobby cpu authorises none
+  none_fits private id (command.Join channel key) none = join_fits id channel key none
   none_fits private id (command.SayPrivate user text) none = private_fits id user text private none
   none_fits private id c none = none

@@ -11,6 +11,7 @@ ghost use Rattle.command_grammar.specs.declared.command.Request.{Request};
 ghost use Rattle.command_grammar.specs.Reads.{Reads};
 ghost use Rattle.reply_kinds.specs.Replies.{id_text};
 ghost use Rattle.request_printer.specs.Faults.{is_id};
+ghost use Rattle.line_words.specs.Bytes.{is_name};
 ghost use Rattle.lobby_model.specs.declared.event.Event.{Event};
 ghost use Rattle.lobby_model.specs.Configuration.{Configuration};
 ghost use Rattle.lobby_model.specs.State.{empty_lobby};
@@ -19,15 +20,22 @@ ghost use Rattle.lobby_setup.specs.Answers.{IsAnswer};
 ghost use Rattle.lobby_setup.specs.declared.error.SetupFault.{SetupFault};
 ghost use Rattle.lobby_setup.specs.declared.setup.Setup.{Setup};
 ghost use Rattle.record_lines.specs.Head.{IsAccountsText, ReadsSettings, SetsUp};
-ghost use Rattle.record_lines.specs.Masks.{hidden, all_hidden, hidden_answer, word_for};
+ghost use Rattle.record_lines.specs.Masks.{hidden, all_hidden, hidden_answer, account_let_in, name_for, word_for};
 ghost use Rattle.record_lines.specs.Played.{played_from};
 ghost use Rattle.record_lines.specs.Schedules.{IsReplay};
 ghost use Rattle.record_lines.specs.Masks.{unread_text};
 
-/// A login with the word that a record has for its own is answered by the accounts of the record as it was.
+/// A login with the word that a record has for its own is answered by the accounts of the record as it was. With the
+/// name that the record has for its own too, it is let in to the account that it was let in to, or to none as it was.
+/// What is a name stays.
 pub fn each_login_is_answered_as_it_was()
     ensures answers { (accounts : List Account) (name word : List ℕ)
         → login (all_hidden accounts) name (word_for accounts name word) ≡ hidden_answer (login accounts name word) }
+    ensures written { (accounts : List Account) (name word : List ℕ)
+        → account_let_in (login (all_hidden accounts) (name_for accounts name word) (word_for accounts name word))
+        ≡ account_let_in (hidden_answer (login accounts name word)) }
+    ensures names { (accounts : List Account) (name word : List ℕ) → IsTrue (is_name name)
+        → name_for accounts name word ≡ name }
     ensures accounts { (account : Account) → IsTrue (is_sound account) → IsTrue (is_sound (hidden account)) }
 {}
 

@@ -4,7 +4,8 @@
 //! What a step says is defined here (`specs/Steps.antt`), and the crate `lobby_script` reads by the same definitions.
 //!
 //! No word of a password is written: a login that named its account's word has the word that each account of the head
-//! has, and any other login one that none has, so that both are answered again as they were.
+//! has, and any other login one that none has, so that both are answered again as they were. Nor is what may be a
+//! password out of its place: the address and the lobby of a login, its name where that is none, and the key of a JOIN.
 #![tactic(auto)]
 
 mod entry;
