@@ -38,7 +38,7 @@ account_let_in (Err why) = None
 abbrev pub word_for : List Account → List ℕ → List ℕ → List ℕ
 word_for accounts name word = if is_ok (login accounts name word) then passes else fails
 
--- the word in place of one that is no name, and the word in place of an address
+-- what stands in place of a name that is none, and of an address
 abbrev pub no_name : List ℕ
 no_name = codes "?"
 
@@ -49,7 +49,7 @@ no_address = codes "*"
 abbrev pub name_for : List Account → List ℕ → List ℕ → List ℕ
 name_for accounts name word = if is_name name || is_ok (login accounts name word) then name else no_name
 
--- a login as it is written: of what it says the cpu and the flag alone
+-- a login as it is written: its cpu and its flag stay, which the lobby reads
 abbrev pub masked_login : List Account → List ℕ → List ℕ → ℤ → Bool → Command
 masked_login accounts name word cpu authorises =
     command.Login (name_for accounts name word) (word_for accounts name word) cpu no_address [] authorises
@@ -58,8 +58,8 @@ masked_login accounts name word cpu authorises =
 abbrev pub stars : List ℕ → List ℕ
 stars = map (λ byte. 42)
 
--- the command as it is written: a login by its mask, a join without its key and, where private talk is not written,
--- that as stars
+-- the command as it is written: a login as above, a join without its key and, where private talk is not written,
+-- that as `*`
 abbrev pub masked_command : List Account → Bool → Command → Command
 masked_command accounts private (command.Login name word cpu ip lobby authorises) =
     masked_login accounts name word cpu authorises

@@ -17,9 +17,10 @@ pub const PASSES: &[u8; 24] = b"AAAAAAAAAAAAAAAAAAAAAA==";
 /// such a login is no longer than it was.
 pub const FAILS: &[u8; 1] = b"B";
 
-/// In place of a login's name that is none, and of its address. No word is shorter.
+/// In place of a login's name that is none. No word is shorter.
 const NO_NAME: &[u8; 1] = b"?";
 
+/// In place of a login's address. No word is shorter.
 const NO_ADDRESS: &[u8; 1] = b"*";
 
 /// What a record leaves out.
