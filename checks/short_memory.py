@@ -151,11 +151,14 @@ def scene(take, workers):
             print(f"  {channels} channels, {before:.1f} MB before, {held:.1f} held, {after:.1f} after;", end=" ")
             print(f"told in {told:.2f} s, served in {served:.2f} s", flush=True)
         first, second = found
-        if second[0] < 0.8 * first[0] or second[1] < 0.8 * first[1]:
-            raise Difference("less could be taken the second time: the lobby did not give its memory back")
+        if second[0] < AGAIN[take] * first[0] or second[1] < 0.8 * first[1]:
+            raise Difference("less could be taken the second time: the lobby did not give its memory back, or took some for a log out")
 
 
 SCENES = [one_account, two_accounts, unread]
+# How many of the channels can be taken once more at least. A log out prints nothing for a channel in which nobody else is, and so it takes
+# no memory; a server that did print lost a sixth of them to what it printed.
+AGAIN = {one_account: 0.95, two_accounts: 0.8, unread: 0.8}
 
 
 def main(folder=None, *names):
