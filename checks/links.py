@@ -8,7 +8,7 @@ import sys
 from pathlib import Path
 
 ROOT = Path(__file__).resolve().parent.parent
-DOCUMENTS = ["README.md", "docs/*.md", "rows/*.md", "bench/*.md", "gateway/*.md", "python/*.md", "crates/*/*.md"]
+DOCUMENTS = ["README.md", "docs/*.md", "rows/*.md", "bench/*.md", "gateway/*.md", "python/*.md", "protocol/*.md", "crates/*/*.md"]
 LINK = re.compile(r"\[([^\]\n]*)\]\(([^)\s]+)\)")
 
 

@@ -17,7 +17,7 @@ from pathlib import Path
 ROOT = Path(__file__).resolve().parent.parent
 CHECKS = ["rows.sh", "programs.sh", "serve.sh", "proxy.py", "log.py", "stopping.py", "record.py", "record_tool.py",
           "accounts.py", "scarce.sh", "short_memory.py", "files.sh", "setup_faults.py", "package.sh", "gateway.sh",
-          "links.py", "definitions.py", "widths.py", "header.py", "views.sh", "memory.sh", "memory_bounds.sh", "refused_memory.sh", "library.py",
+          "links.py", "definitions.py", "widths.py", "protocol.py", "header.py", "views.sh", "memory.sh", "memory_bounds.sh", "refused_memory.sh", "library.py",
           "python.sh"]
 # What the proof of a crate may take from nothing, in seconds of a processor: most crates, and any. The table names each that takes more.
 # One that takes half as much again as any may fails the gate.

@@ -1,8 +1,10 @@
 #!/usr/bin/env bash
-# unit.sh [CRATE..] : runs tests without any proof, by `rt try --test`, side by side: of the crates of tests that are named; else of
-# leaf_tests where a crate was changed since HEAD that it stands on, and of lobby_tests where any other was; and of both where none was.
+# unit.sh [CRATE..] : compares what the tables of protocol/ write, and runs tests without any proof, by `rt try --test`, side by side: of
+# the crates of tests that are named; else of leaf_tests where a crate was changed since HEAD that it stands on, and of lobby_tests where
+# any other was; and of both where none was.
 set -euo pipefail
 cd "$(dirname "$0")/.."
+checks/protocol.py
 crates=("$@")
 if [ $# -eq 0 ]; then
     leaves=" $(awk -v names=leaf_tests -f tools/below.awk crates.txt | tr '\n' ' ')leaf_tests "

@@ -8,6 +8,7 @@ use request_printer::{PrintError, print_request};
 use std::alloc::Global;
 
 /// A line of each command.
+// Written by tools/protocol.py of protocol/commands.toml: good lines.
 static GOOD_LINES: [&[u8]; 36] = [
     b"PING",
     b"CHANNELS",
@@ -46,6 +47,7 @@ static GOOD_LINES: [&[u8]; 36] = [
     b"KICKFROMBATTLE Bert",
     b"RING Bert",
 ];
+// End of what is written: good lines.
 
 #[test]
 fn each_command_is_read(rt: HostRuntime) {

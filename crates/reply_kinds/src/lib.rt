@@ -27,6 +27,7 @@ pub use opened_battle::OpenedBattle;
 /// 0 to 1, `nat_type` 0 to 2, and colours, hashes, ranks and `cpu` -2147483648 to 4294967295. The type
 /// does not hold these, and printing does not ask for them.
 pub enum Reply<'a> {
+    // Written by tools/protocol.py of protocol/replies.toml: variants.
     /// `TASSERVER`. The greeting: the versions spoken, the UDP port for address translation and the server's mode.
     TasServer {
         protocol_version: Word<'a>,
@@ -248,6 +249,7 @@ pub enum Reply<'a> {
     },
     /// `ENABLEALLUNITS`. No unit is disabled any more.
     EnableAllUnits,
+    // End of what is written: variants.
 }
 
 impl Drop for Reply<'_> {
@@ -256,6 +258,7 @@ impl Drop for Reply<'_> {
     #[rattlefmt::skip]
     fn drop(self) {
         match self {
+            // Written by tools/protocol.py of protocol/replies.toml: drop.
             Reply::TasServer { protocol_version: _, spring_version: _, udp_port: _, server_mode: _ }
             | Reply::Accepted { user: _ } | Reply::Denied { text: _ } | Reply::Motd { text: _ }
             | Reply::ServerMsg { text: _ } | Reply::AddUser { user: _, country: _, cpu: _, account: _ }
@@ -282,6 +285,7 @@ impl Drop for Reply<'_> {
             | Reply::RemoveScriptTags { keys: _ } | Reply::ForceQuitBattle | Reply::Ring { user: _ }
             | Reply::JoinBattleRequest { user: _, ip: _ } | Reply::DisableUnits { units: _ }
             | Reply::EnableUnits { units: _ } | Reply::EnableAllUnits => {}
+            // End of what is written: drop.
         }
     }
 }

@@ -1,0 +1,74 @@
+#!/usr/bin/env python3
+"""Lets tools/protocol.py compare what it writes, and sees that it refuses tables that are wrong, each by its name."""
+import shutil
+import subprocess
+import sys
+import tempfile
+from pathlib import Path
+
+ROOT = Path(__file__).resolve().parent.parent
+sys.path.insert(0, str(ROOT / "tools"))
+from written.numbers import HEADER, check_numbers  # noqa: E402
+from written.table import Command, Reply, TableError, Tables  # noqa: E402
+
+# What is changed in a table, and what is said of it: the line and the field are named.
+WRONG = [
+    (Command, "number = 27\n", "number = 28\n", "ENABLEUNITS: number: 28 stands in line "),
+    (Command, "number = 36\n", "number = 40\n", "RING: number: 40 is not 36, the next one"),
+    (Command, 'word = "ENABLEUNITS"\n', 'word = "DISABLEUNITS"\n', "DISABLEUNITS: word: DISABLEUNITS stands in line "),
+    (Reply, "number = 46\n", "number = 47\n", "number: 47 stands in line "),
+    (Reply, 'variant = "Ring"\n', 'variant = "Rings"\n', "RING: variant: Rings is not RING in other letters"),
+    (Command, 'arguments = "u32 status"', 'arguments = "u64 status"', "MYSTATUS: arguments: 'u64 status' is no argument"),
+    (Command, '["MYSTATUS 1x", "bad number"]', '["MYSTATUS 1x"]', "MYSTATUS: bad: ['MYSTATUS 1x'] is no line with one of "),
+    (Command, '["MYSTATUS 1x", "bad number"]', '["MYSTATUS 1x", "bad"]', "MYSTATUS: bad: ['MYSTATUS 1x', 'bad'] is no line "),
+    (Command, 'who = "founder"', 'who = "nobody"', "who: 'nobody' is none of anyone, user, member, founder"),
+    (Command, 'row = "status_row"\n', "", "MYSTATUS: row: it names the row "),
+    (Command, 'meaning = "Leaves a channel."\n', "", "LEAVE: meaning: it is missing"),
+    (Command, 'part = "users"', 'place = "users"', "LOGIN: place: there is no such field"),
+]
+
+
+def refusal(root):
+    """What is said of the tables below a folder."""
+    try:
+        check_numbers(Tables(root))
+    except TableError as error:
+        return str(error)
+    return "nothing"
+
+
+def swapped(text):
+    """A table in which two commands have changed their numbers, and are each the next one again."""
+    return text.replace("number = 27\n", "number = X\n").replace("number = 28\n", "number = 27\n").replace("number = X\n", "number = 28\n")
+
+
+def faults(root):
+    """A line for each wrong table that is not refused as it is to be."""
+    for kind, old, new, wanted in [*WRONG, (Command, None, None, "number: it is 27 in include/lobby.h for ever, and not 28")]:
+        path = root / kind.FILE
+        whole = path.read_text(encoding="utf-8")
+        path.write_text(swapped(whole) if old is None else whole.replace(old, new, 1), encoding="utf-8")
+        said = refusal(root)
+        if wanted not in said or not said.startswith(f"{kind.FILE}:"):
+            yield f"of {new!r} is said {said}, and not {wanted}"
+        path.write_text(whole, encoding="utf-8")
+
+
+def main():
+    with tempfile.TemporaryDirectory() as room:
+        root = Path(room)
+        shutil.copytree(ROOT / "protocol", root / "protocol")
+        (root / HEADER).parent.mkdir()
+        shutil.copy(ROOT / HEADER, root / HEADER)
+        found = [*faults(root)]
+        if refusal(root) != "nothing":
+            found.append(f"the tables as they are: {refusal(root)}")
+    for it in found:
+        print(it)
+    print(f"tables: {len(WRONG) + 2 - len(found)} passed, {len(found)} failed", flush=True)
+    compared = subprocess.run([ROOT / "tools/protocol.py", "--check"])
+    return 1 if found else compared.returncode
+
+
+if __name__ == "__main__":
+    sys.exit(main())

@@ -1,0 +1,39 @@
+"""All regions that are written, by file."""
+from . import code, definitions, proofs
+from .fences import Region
+
+
+def joined(*parts):
+    """What several write, with an empty line between them."""
+    def lines(tables):
+        found = []
+        for part in parts:
+            found += [*part(tables), ""]
+        return found[:-1]
+    return lines
+
+
+REGIONS = [
+    Region("crates/reply_kinds/src/command_word.rt", "variants", "replies", code.reply_words, 4),
+    Region("crates/reply_kinds/src/command_word.rt", "words", "replies", code.reply_texts, 12),
+    Region("crates/reply_kinds/src/lib.rt", "variants", "replies", code.reply_variants, 4),
+    Region("crates/reply_kinds/src/lib.rt", "drop", "replies", code.reply_drop, 12),
+    Region("crates/reply_kinds/specs/Replies.antt", "the table", "replies",
+           joined(definitions.word_of, definitions.kinds_of, definitions.command_of, definitions.values_of)),
+    Region("crates/reply_printer/src/reply_table.rt", "rows", "replies", code.reply_rows, 12),
+    Region("crates/reply_printer/proofs/printing/put_reply/Answers.antt", "answers", "replies", proofs.replies_printed),
+    Region("crates/reply_grammar/specs/Lines.antt", "command words", "replies", definitions.commands),
+    Region("crates/reply_grammar/specs/Lines.antt", "replies of values", "replies", definitions.reply_of_values),
+    Region("crates/reply_grammar/src/command_words.rt", "count", "replies", code.reply_count),
+    Region("crates/reply_grammar/proofs/Whole.antt", "ends of words", "replies", proofs.word_ends),
+    Region("crates/reply_grammar/proofs/reading/arguments/Answers.antt", "answers", "replies", proofs.replies_read),
+    Region("crates/command_grammar/src/command.rt", "variants", "commands", code.command_variants, 4),
+    Region("crates/command_grammar/src/command.rt", "rows", "commands", code.command_rows, 12),
+    Region("crates/command_grammar/specs/Table.antt", "entries", "commands", definitions.entries),
+    Region("crates/command_grammar/specs/Table.antt", "arguments", "commands", definitions.arguments_of),
+    Region("crates/request_printer/proofs/Named.antt", "words", "commands", proofs.word_named),
+    Region("crates/request_printer/proofs/printing/print_command/Answers.antt", "answers", "commands", proofs.requests_printed),
+    Region("crates/lobby_lines/src/request_table.rt", "count", "commands", code.command_count),
+    Region("crates/leaf_tests/src/requests.rt", "good lines", "commands", code.good_lines),
+    Region("crates/leaf_tests/src/replies.rt", "good lines", "replies", code.good_replies),
+]
