@@ -33,6 +33,7 @@ class Reply:
         return it
 
 
+# Written by tools/protocol.py of protocol/replies.toml: classes.
 @dataclass(frozen=True)
 class TASSERVER(Reply):
     """The greeting."""
@@ -406,6 +407,7 @@ class ENABLEUNITS(Reply):
 @dataclass(frozen=True)
 class ENABLEALLUNITS(Reply):
     """No unit is disabled."""
+# End of what is written: classes.
 
 
 KINDS: tuple[type[Reply], ...] = tuple(Reply.__subclasses__())  # the kind 1 comes first

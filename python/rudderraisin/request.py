@@ -28,6 +28,7 @@ class Request:
         return _native.print_request(self.kind, id, [*kinds.fields(self)])
 
 
+# Written by tools/protocol.py of protocol/commands.toml: classes.
 @dataclass(frozen=True)
 class PING(Request):
     """Asks for a sign of life."""
@@ -309,6 +310,7 @@ class RING(Request):
     """The founder rings a member."""
 
     user: Name
+# End of what is written: classes.
 
 
 KINDS: tuple[type[Request], ...] = tuple(Request.__subclasses__())  # the kind 1 comes first

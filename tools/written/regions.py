@@ -1,5 +1,5 @@
 """All regions that are written, by file."""
-from . import code, definitions, proofs
+from . import code, definitions, package, proofs
 from .fences import Region
 
 
@@ -36,4 +36,8 @@ REGIONS = [
     Region("crates/lobby_lines/src/request_table.rt", "count", "commands", code.command_count),
     Region("crates/leaf_tests/src/requests.rt", "good lines", "commands", code.good_lines),
     Region("crates/leaf_tests/src/replies.rt", "good lines", "replies", code.good_replies),
+    Region("include/lobby.h", "kinds of replies", "replies", package.header_replies, 4),
+    Region("include/lobby.h", "kinds of requests", "commands", package.header_requests, 4),
+    Region("python/rudderraisin/reply.py", "classes", "replies", package.reply_classes),
+    Region("python/rudderraisin/request.py", "classes", "commands", package.request_classes),
 ]
