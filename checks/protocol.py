@@ -8,6 +8,7 @@ from pathlib import Path
 
 ROOT = Path(__file__).resolve().parent.parent
 sys.path.insert(0, str(ROOT / "tools"))
+from written.lines import check_lines  # noqa: E402
 from written.numbers import HEADER, check_numbers  # noqa: E402
 from written.table import Command, Reply, TableError, Tables  # noqa: E402
 
@@ -21,6 +22,9 @@ WRONG = [
     (Command, 'arguments = "u32 status"', 'arguments = "u64 status"', "MYSTATUS: arguments: 'u64 status' is no argument"),
     (Command, '["MYSTATUS 1x", "bad number"]', '["MYSTATUS 1x"]', "MYSTATUS: bad: ['MYSTATUS 1x'] is no line with one of "),
     (Command, '["MYSTATUS 1x", "bad number"]', '["MYSTATUS 1x", "bad"]', "MYSTATUS: bad: ['MYSTATUS 1x', 'bad'] is no line "),
+    (Command, '["MYSTATUS 1x", "bad number"]', '["MYSTATUS 1", "bad number"]', "MYSTATUS: bad: 'MYSTATUS 1': no fault, and not bad "),
+    (Reply, '"REMOVEBOT 1 Rex"', '"REMOVEBOT 0 Rex"', "REMOVEBOT: good: 'REMOVEBOT 0 Rex': bad number"),
+    (Reply, '"REMOVEBOT 1 Rex"', '"REMOVEBOT 01 Rex"', "REMOVEBOT: good: 'REMOVEBOT 01 Rex': a reply prints as "),
     (Command, 'who = "founder"', 'who = "nobody"', "who: 'nobody' is none of anyone, user, member, founder"),
     (Command, 'row = "status_row"\n', "", "MYSTATUS: row: it names the row "),
     (Command, 'meaning = "Leaves a channel."\n', "", "LEAVE: meaning: it is missing"),
@@ -31,7 +35,9 @@ WRONG = [
 def refusal(root):
     """What is said of the tables below a folder."""
     try:
-        check_numbers(Tables(root))
+        tables = Tables(root)
+        check_lines(tables)
+        check_numbers(tables)
     except TableError as error:
         return str(error)
     return "nothing"

@@ -9,6 +9,7 @@ import collections
 import sys
 
 from written.fences import FenceError, difference, fenced
+from written.lines import check_lines
 from written.numbers import check_numbers
 from written.regions import REGIONS
 from written.table import ROOT, TableError, Tables
@@ -72,6 +73,7 @@ def main():
         return 2
     try:
         tables = Tables()
+        check_lines(tables)
         check_numbers(tables)
         return todo(tables)
     except (TableError, FenceError) as error:

@@ -1,5 +1,5 @@
 """All regions that are written, by file."""
-from . import code, definitions, package, proofs
+from . import checks, code, definitions, package, proofs
 from .fences import Region
 
 
@@ -40,4 +40,11 @@ REGIONS = [
     Region("include/lobby.h", "kinds of requests", "commands", package.header_requests, 4),
     Region("python/rudderraisin/reply.py", "classes", "replies", package.reply_classes),
     Region("python/rudderraisin/request.py", "classes", "commands", package.request_classes),
+    Region("python/tests/test_reply.py", "lines", "replies", checks.tested_replies),
+    Region("python/tests/test_request.py", "lines", "commands", checks.tested_requests),
+    Region("checks/hostile.py", "words", "commands", checks.hostile_words),
+    Region("checks/python_sessions.py", "weights", "commands", checks.session_weights),
+    Region("checks/lines_wanted.py", "replies", "replies", checks.library_replies),
+    Region("checks/lines_wanted.py", "requests", "commands", checks.library_requests),
+    Region("bench/lines.rs", "words", "commands", checks.bench_words, 8),
 ]
