@@ -170,3 +170,22 @@ def tested_requests(tables):
             else:
                 lines += [*wrapped(f"    (r.{it.word}(", parts, "),", 8 + len(it.word)), f"     {bytes_of(line)}),"]
     return [*lines, "]"]
+
+
+def row_line(line):
+    """A line as a script of lobby_play has it."""
+    return line.replace("\t", "\\t") + "\\n"
+
+
+def tried_logged_out(tables):
+    return [f"each send 1 #5 {row_line(it.tried[0])}" for it in tables.commands.lines if it.tried]
+
+
+def tried_without_battle(tables):
+    found = [it.tried[1:3] for it in tables.commands.lines if it.tried[2:]]
+    return [f"each send 3 {row_line(one)}#5 {row_line(other)}" for one, other in found]
+
+
+def tried_as_member(tables):
+    found = [it.tried[-2:] for it in tables.commands.lines if it.tried[2:] and it.who == "founder"]
+    return [f"each send 2 {row_line(one)}#5 {row_line(other)}" for one, other in found]

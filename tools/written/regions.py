@@ -47,4 +47,7 @@ REGIONS = [
     Region("checks/lines_wanted.py", "replies", "replies", checks.library_replies),
     Region("checks/lines_wanted.py", "requests", "commands", checks.library_requests),
     Region("bench/lines.rs", "words", "commands", checks.bench_words, 8),
+    Region("rows/battles/not_logged_in.row", "commands", "commands", checks.tried_logged_out),
+    Region("rows/battles/not_in_a_battle.row", "commands", "commands", checks.tried_without_battle),
+    Region("rows/battles/not_the_founder.row", "commands", "commands", checks.tried_as_member),
 ]

@@ -117,6 +117,7 @@ class Command(Line):
     row: str = "[]"             # the name of its row of kinds, in Table.antt
     reader: str = ""            # what reads that row, where no other command has it
     bad: list = field(default_factory=list)         # lines with their fault
+    tried: list = field(default_factory=list)       # lines that the rows of refusals try
     weight: int = 0             # how often checks/python_sessions.py asks for it beside the others
 
     FILE = "protocol/commands.toml"
@@ -214,6 +215,8 @@ class Table:
             for bad in it.bad:
                 if not (isinstance(bad, list) and len(bad) == 2 and bad[1] in FAULTS):
                     raise self.fault(it.at, it.word, "bad", f"{bad!r} is no line with one of {', '.join(FAULTS)}")
+            if any(not str(line).startswith(it.word) for line in it.tried):
+                raise self.fault(it.at, it.word, "tried", "a line is another command's")
             if (it.row == "[]") != (not it.kept):
                 raise self.fault(it.at, it.word, "row", "it names the row of the arguments, where there are any")
 
