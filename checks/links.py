@@ -31,9 +31,10 @@ def defined_at(file, name):
 
 
 def headings(file):
-    """The anchors of a document's headings."""
-    found = re.findall(r"(?m)^#+ (.+)$", file.read_text(encoding="utf-8"))
-    return {re.sub(r"[^\w\- ]", "", it.lower()).replace(" ", "-") for it in found}
+    """The anchors of a document: its headings, and those that it has by name."""
+    text = file.read_text(encoding="utf-8")
+    found = re.findall(r"(?m)^#+ (.+)$", text)
+    return {re.sub(r"[^\w\- ]", "", it.lower()).replace(" ", "-") for it in found} | {*re.findall(r'<a id="([^"]+)">', text)}
 
 
 def fault(document, text, target):

@@ -1,5 +1,5 @@
 """All regions that are written, by file."""
-from . import checks, code, definitions, package, proofs
+from . import checks, code, definitions, package, page, proofs
 from .fences import Region
 
 
@@ -40,6 +40,8 @@ REGIONS = [
     Region("include/lobby.h", "kinds of requests", "commands", package.header_requests, 4),
     Region("python/rudderraisin/reply.py", "classes", "replies", package.reply_classes),
     Region("python/rudderraisin/request.py", "classes", "commands", package.request_classes),
+    Region("docs/PROTOCOL.md", "commands", "commands", page.commands),
+    Region("docs/PROTOCOL.md", "replies", "replies", page.replies),
     Region("python/tests/test_reply.py", "lines", "replies", checks.tested_replies),
     Region("python/tests/test_request.py", "lines", "commands", checks.tested_requests),
     Region("checks/hostile.py", "words", "commands", checks.hostile_words),

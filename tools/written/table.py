@@ -117,6 +117,7 @@ class Command(Line):
     row: str = "[]"             # the name of its row of kinds, in Table.antt
     reader: str = ""            # what reads that row, where no other command has it
     bad: list = field(default_factory=list)         # lines with their fault
+    refusals: list = field(default_factory=list)    # lines that refuse it, with when, in the order in which they are looked at
     tried: list = field(default_factory=list)       # lines that the rows of refusals try
     weight: int = 0             # how often checks/python_sessions.py asks for it beside the others
 
@@ -215,6 +216,8 @@ class Table:
             for bad in it.bad:
                 if not (isinstance(bad, list) and len(bad) == 2 and bad[1] in FAULTS):
                     raise self.fault(it.at, it.word, "bad", f"{bad!r} is no line with one of {', '.join(FAULTS)}")
+            if not all(isinstance(of, list) and len(of) == 2 for of in it.refusals):
+                raise self.fault(it.at, it.word, "refusals", "each is a line and when it is told")
             if any(not str(line).startswith(it.word) for line in it.tried):
                 raise self.fault(it.at, it.word, "tried", "a line is another command's")
             if (it.row == "[]") != (not it.kept):
