@@ -8,6 +8,7 @@ from pathlib import Path
 
 ROOT = Path(__file__).resolve().parent.parent
 sys.path.insert(0, str(ROOT / "tools"))
+from written.fences import FenceError, Region, difference  # noqa: E402
 from written.lines import check_lines  # noqa: E402
 from written.numbers import HEADER, check_numbers  # noqa: E402
 from written.table import Command, Reply, TableError, Tables  # noqa: E402
@@ -60,18 +61,37 @@ def faults(root):
         path.write_text(whole, encoding="utf-8")
 
 
+def fence_faults():
+    """A line for each fault of a file with a region that is not told."""
+    region = Region("some.rt", "words", "replies", lambda tables: [])
+    first, last = region.fences()
+    for lines, wanted in [
+        ([first, "one", "two", last], None),
+        ([first, "one", "three", last], "some.rt:3: words: it has 'three', and the table says 'two'"),
+        ([first, "one", last], "some.rt:3: words: it ends, and the table says 'two'"),
+        ([first, "one", "two", "three", last], "some.rt:4: words: it has 'three', and the table ends"),
+        ([first, "one", "two"], "some.rt: the line '// End of what is written: words.' stands 0 times, and is to stand once"),
+    ]:
+        try:
+            said = difference(region, lines, ["one", "two"])
+        except FenceError as error:
+            said = str(error)
+        if said != wanted:
+            yield f"of {lines} is said {said}, and not {wanted}"
+
+
 def main():
     with tempfile.TemporaryDirectory() as room:
         root = Path(room)
         shutil.copytree(ROOT / "protocol", root / "protocol")
         (root / HEADER).parent.mkdir()
         shutil.copy(ROOT / HEADER, root / HEADER)
-        found = [*faults(root)]
+        found = [*faults(root), *fence_faults()]
         if refusal(root) != "nothing":
             found.append(f"the tables as they are: {refusal(root)}")
     for it in found:
         print(it)
-    print(f"tables: {len(WRONG) + 2 - len(found)} passed, {len(found)} failed", flush=True)
+    print(f"tables: {len(WRONG) + 7 - len(found)} passed, {len(found)} failed", flush=True)
     compared = subprocess.run([ROOT / "tools/protocol.py", "--check"])
     return 1 if found else compared.returncode
 

@@ -1,10 +1,24 @@
 """What is written into the code of the crates: enums, words, rows and counts."""
 from .layout import WIDTH, comment, literal, packed
+from .table import FAULTS
 
 # The variants that the enum of commands has before the others, which follow by number.
 DECLARED_FIRST = ["LOGIN", "PING", "CHANNELS", "LEAVEBATTLE", "EXIT"]
 # The lines of the tests without arguments stand first.
 TRIED_FIRST = ["PING", "CHANNELS", "LEAVEBATTLE", "EXIT", "LOGIN"]
+# Of the tests' lines with a fault those of these commands stand behind the others.
+FAULTS_LAST = ["JOINBATTLEACCEPT", "JOINBATTLEDENY", "DISABLEUNITS", "ENABLEUNITS"]
+NO_COMMANDS = ["ping", "#9", "#2147483648 PING"]
+# The commands that the tests name first; a function of its own names the others.
+NAMED_FIRST = ["PING", "CHANNELS", "EXIT", "LOGIN", "MYSTATUS", "JOIN", "LEAVE", "SAY", "SAYEX", "SAYPRIVATE", "OPENBATTLE",
+               "JOINBATTLE", "LEAVEBATTLE", "SAYBATTLE", "SAYBATTLEEX", "RING"]
+# The replies with which the arms of the library's table begin; a new row is behind them, and no arguments come last.
+ARMS = ["TASSERVER", "ADDUSER", "CLIENTSTATUS", "DENIED", "ACCEPTED", "CLIENTS", "JOINED", "SAID", "JOINFAILED", "BATTLEOPENED",
+        "OPENBATTLE", "JOINBATTLE", "JOINBATTLEREQUEST", "JOINEDBATTLE"]
+LIBRARY_KINDS = {
+    "word": "Word", "name": "Name", "u32": "Status", "wide": "Wide", "0..65535": "Port", "sentence": "Sentence", "text": "Text",
+    "words": "Words", "names": "Names", "pairs": "Pairs", "1..2147483647": "Battle",
+}
 REPLY_TYPES = {
     "word": "Word<'a>", "name": "Name<'a>", "u32": "u32", "wide": "Wide", "0..65535": "u16", "sentence": "Sentence<'a>",
     "text": "Text<'a>", "words": "Words<'a>", "names": "Names<'a>", "pairs": "Pairs<'a>", "1..2147483647": "BattleNumber",
@@ -150,3 +164,60 @@ def good_lines(tables):
 def good_replies(tables):
     lines = [line for it in tables.replies.lines for line in it.good]
     return [f"static LINES: [&[u8]; {len(lines)}] = [", *(f"    {literal(it)}," for it in lines), "];"]
+
+
+def library_kinds(reply):
+    """The kinds of a reply's arguments in the library's table."""
+    kinds = []
+    for it in reply.kept:
+        made = "Flag" if it.is_yes_or_no else LIBRARY_KINDS.get(it.kind) or f"Small({it.bounds[1]})"
+        made = f"Optional{made}" if it.is_optional else made
+        kinds.append("NextSentence" if made == "Sentence" and kinds and kinds[-1].endswith("Sentence") else made)
+    return tuple(kinds)
+
+
+def arm_order(arm):
+    """Where an arm stands: by ARMS, then others by number, and without arguments last."""
+    kinds, replies = arm
+    return not kinds, next((ARMS.index(it.word) for it in replies if it.word in ARMS), len(ARMS)), replies[0].number
+
+
+def library_arms(tables):
+    """An arm for each row of kinds, with all replies that have it."""
+    rows = {}
+    for it in tables.replies.numbered():
+        rows.setdefault(library_kinds(it), []).append(it)
+    lines, pad = [], " " * 8
+    for kinds, replies in sorted(rows.items(), key=arm_order):
+        parts = [f" | CommandWord::{it.variant}" for it in replies]
+        parts[0] = parts[0].removeprefix(" | ")
+        whole = f" => &[{', '.join(kinds)}],"
+        if len(pad + parts[0] + whole) <= WIDTH:
+            lines += packed([*parts[:-1], parts[-1] + whole], pad, pad)
+        else:
+            first = next(at for at, it in enumerate(kinds) if it == "Sentence")
+            inside = [f"{pad}    {', '.join(some)}," for some in (kinds[:first], kinds[first:])]
+            lines += [f"{pad}{parts[0]} => &[", *inside, f"{pad}],"]
+    return lines
+
+
+def bad_lines(tables):
+    """The lines with a fault, by faults."""
+    found = [(line, "unknown command") for line in NO_COMMANDS]
+    last = sorted(tables.commands.numbered(), key=lambda it: it.word in FAULTS_LAST)
+    found += sorted((bad for it in last for bad in it.bad), key=lambda bad: FAULTS.index(bad[1]))
+    rows = [f"    ({literal(line)}, ReadFault::{fault.title().replace(' ', '')})," for line, fault in found]
+    return [f"static FAULTS: [(&[u8], ReadFault); {len(rows)}] = [", *rows, "];"]
+
+
+def tested_word(it):
+    return f"        Command::{it.variant}{' { .. }' if it.kept else ''} => {literal(it.word)},"
+
+
+def tested_words(tables):
+    named = first_of(NAMED_FIRST, tables.commands.numbered())
+    return [tested_word(it) for it in named if it.word in NAMED_FIRST]
+
+
+def other_tested_words(tables):
+    return [tested_word(it) for it in tables.commands.numbered() if it.word not in NAMED_FIRST]

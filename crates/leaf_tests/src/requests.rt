@@ -61,6 +61,7 @@ fn each_command_is_read(rt: HostRuntime) {
     }
 }
 
+// Written by tools/protocol.py of protocol/commands.toml: bad lines.
 static FAULTS: [(&[u8], ReadFault); 21] = [
     (b"ping", ReadFault::UnknownCommand),
     (b"#9", ReadFault::UnknownCommand),
@@ -84,6 +85,7 @@ static FAULTS: [(&[u8], ReadFault); 21] = [
     (b"DISABLEUNITS arm\tcom", ReadFault::BadByte),
     (b"SETSCRIPTTAGS =1", ReadFault::BadPair),
 ];
+// End of what is written: bad lines.
 
 #[test]
 fn faults_are_told(rt: HostRuntime) {
@@ -304,6 +306,7 @@ fn has_tags(command: &Command, wanted: &[(&[u8], &[u8])]) -> bool {
 fn word_of(command: &Command) -> &'static [u8] {
     match command {
         Command::Blank | Command::Unread(_) => b"",
+        // Written by tools/protocol.py of protocol/commands.toml: words.
         Command::Ping => b"PING",
         Command::Channels => b"CHANNELS",
         Command::Exit => b"EXIT",
@@ -320,6 +323,7 @@ fn word_of(command: &Command) -> &'static [u8] {
         Command::SayBattle { .. } => b"SAYBATTLE",
         Command::SayBattleEx { .. } => b"SAYBATTLEEX",
         Command::Ring { .. } => b"RING",
+        // End of what is written: words.
         _ => word_in_a_battle(command),
     }
 }
@@ -327,6 +331,7 @@ fn word_of(command: &Command) -> &'static [u8] {
 /// The word of a command that changes a battle; none of another.
 fn word_in_a_battle(command: &Command) -> &'static [u8] {
     match command {
+        // Written by tools/protocol.py of protocol/commands.toml: other words.
         Command::JoinBattleAccept { .. } => b"JOINBATTLEACCEPT",
         Command::JoinBattleDeny { .. } => b"JOINBATTLEDENY",
         Command::UpdateBattleInfo { .. } => b"UPDATEBATTLEINFO",
@@ -347,6 +352,7 @@ fn word_in_a_battle(command: &Command) -> &'static [u8] {
         Command::ForceTeamColor { .. } => b"FORCETEAMCOLOR",
         Command::ForceSpectatorMode { .. } => b"FORCESPECTATORMODE",
         Command::KickFromBattle { .. } => b"KICKFROMBATTLE",
+        // End of what is written: other words.
         _ => b"",
     }
 }
