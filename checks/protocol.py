@@ -16,7 +16,7 @@ from written.table import Command, Reply, TableError, Tables  # noqa: E402
 # What is changed in a table, and what is said of it: the line and the field are named.
 WRONG = [
     (Command, "number = 27\n", "number = 28\n", "ENABLEUNITS: number: 28 stands in line "),
-    (Command, "number = 36\n", "number = 40\n", "RING: number: 40 is not 36, the next one"),
+    (Command, "number = 36\n", "number = 40\n", "is not 36, the next one"),
     (Command, 'word = "ENABLEUNITS"\n', 'word = "DISABLEUNITS"\n', "DISABLEUNITS: word: DISABLEUNITS stands in line "),
     (Reply, "number = 46\n", "number = 47\n", "number: 47 stands in line "),
     (Reply, 'variant = "Ring"\n', 'variant = "Rings"\n', "RING: variant: Rings is not RING in other letters"),
