@@ -53,6 +53,10 @@ test: ## the gate: proves what no run here proved before, tries wrong bodies, ru
 unit: ## runs the tests of what you changed, without a proof (CRATE=lobby_tests)
 	@tools/unit.sh $(CRATE)
 
+.PHONY: protocol
+protocol: ## writes what many files have of each command and reply, from the tables of protocol/
+	@tools/protocol.py --write
+
 fmt: ## lays out the crates that you changed
 	@for crate in $$(tools/changed.sh); do (cd crates/$$crate && rt fmt) || exit 1; done
 

@@ -13,6 +13,8 @@ from written.lines import check_lines  # noqa: E402
 from written.numbers import HEADER, check_numbers  # noqa: E402
 from written.table import Command, Reply, TableError, Tables  # noqa: E402
 
+BAD = '["MYSTATUS 1x", "bad number"]'
+MOVED = (Command, None, None, "number: it is 27 in include/lobby.h for ever, and not 28")
 # What is changed in a table, and what is said of it: the line and the field are named.
 WRONG = [
     (Command, "number = 27\n", "number = 28\n", "ENABLEUNITS: number: 28 stands in line "),
@@ -20,10 +22,10 @@ WRONG = [
     (Command, 'word = "ENABLEUNITS"\n', 'word = "DISABLEUNITS"\n', "DISABLEUNITS: word: DISABLEUNITS stands in line "),
     (Reply, "number = 46\n", "number = 47\n", "number: 47 stands in line "),
     (Reply, 'variant = "Ring"\n', 'variant = "Rings"\n', "RING: variant: Rings is not RING in other letters"),
-    (Command, 'arguments = "u32 status"', 'arguments = "u64 status"', "MYSTATUS: arguments: 'u64 status' is no argument"),
-    (Command, '["MYSTATUS 1x", "bad number"]', '["MYSTATUS 1x"]', "MYSTATUS: bad: ['MYSTATUS 1x'] is no line with one of "),
-    (Command, '["MYSTATUS 1x", "bad number"]', '["MYSTATUS 1x", "bad"]', "MYSTATUS: bad: ['MYSTATUS 1x', 'bad'] is no line "),
-    (Command, '["MYSTATUS 1x", "bad number"]', '["MYSTATUS 1", "bad number"]', "MYSTATUS: bad: 'MYSTATUS 1': no fault, and not bad "),
+    (Command, 'arguments = "u32 status"', 'arguments = "u64 status"', "MYSTATUS: arguments: 'u64 status' is no argument "),
+    (Command, BAD, '["MYSTATUS 1x"]', "MYSTATUS: bad: ['MYSTATUS 1x'] is no line with one of "),
+    (Command, BAD, '["MYSTATUS 1x", "bad"]', "MYSTATUS: bad: ['MYSTATUS 1x', 'bad'] is no line with one of "),
+    (Command, BAD, '["MYSTATUS 1", "bad number"]', "MYSTATUS: bad: 'MYSTATUS 1': no fault, and not bad number"),
     (Reply, '"REMOVEBOT 1 Rex"', '"REMOVEBOT 0 Rex"', "REMOVEBOT: good: 'REMOVEBOT 0 Rex': bad number"),
     (Reply, '"REMOVEBOT 1 Rex"', '"REMOVEBOT 01 Rex"', "REMOVEBOT: good: 'REMOVEBOT 01 Rex': a reply prints as "),
     (Command, 'who = "founder"', 'who = "nobody"', "who: 'nobody' is none of anyone, user, member, founder"),
@@ -46,12 +48,14 @@ def refusal(root):
 
 def swapped(text):
     """A table in which two commands have changed their numbers, and are each the next one again."""
-    return text.replace("number = 27\n", "number = X\n").replace("number = 28\n", "number = 27\n").replace("number = X\n", "number = 28\n")
+    for old, new in (("27", "X"), ("28", "27"), ("X", "28")):
+        text = text.replace(f"number = {old}\n", f"number = {new}\n")
+    return text
 
 
 def faults(root):
     """A line for each wrong table that is not refused as it is to be."""
-    for kind, old, new, wanted in [*WRONG, (Command, None, None, "number: it is 27 in include/lobby.h for ever, and not 28")]:
+    for kind, old, new, wanted in [*WRONG, MOVED]:
         path = root / kind.FILE
         whole = path.read_text(encoding="utf-8")
         path.write_text(swapped(whole) if old is None else whole.replace(old, new, 1), encoding="utf-8")
@@ -70,7 +74,7 @@ def fence_faults():
         ([first, "one", "three", last], "some.rt:3: words: it has 'three', and the table says 'two'"),
         ([first, "one", last], "some.rt:3: words: it ends, and the table says 'two'"),
         ([first, "one", "two", "three", last], "some.rt:4: words: it has 'three', and the table ends"),
-        ([first, "one", "two"], "some.rt: the line '// End of what is written: words.' stands 0 times, and is to stand once"),
+        ([first, "one", "two"], f"some.rt: the line {last!r} stands 0 times, and is to stand once"),
     ]:
         try:
             said = difference(region, lines, ["one", "two"])

@@ -1,8 +1,8 @@
 #!/usr/bin/env bash
-# places.sh WORD : the files in which a command or a reply stands, by kind, as places.sh DISABLEUNITS; of each how many lines have it that
-# are by hand, and how many that tools/protocol.py writes.
-# It stands there as its word (DISABLEUNITS, LOBBY_ASK_DISABLEUNITS), as its variant (command.DisableUnits), or, where it has several words,
-# in a name that has them (disable_units).
+# places.sh WORD : the files in which a command or a reply stands, by kind, as places.sh DISABLEUNITS; of each how many
+# lines have it that are by hand, and how many that tools/protocol.py writes.
+# It stands there as its word (DISABLEUNITS, LOBBY_ASK_DISABLEUNITS), as its variant (command.DisableUnits), or, where it
+# has several words, in a name that has them (disable_units).
 set -euo pipefail
 cd "$(dirname "$0")/.."
 word=${1:?give a command or a reply, as places.sh DISABLEUNITS}
@@ -26,9 +26,13 @@ kind() {
         $1 ~ pattern {
             if ($2) { files++; lines += $2 }
             if ($3) { others++; written += $3 }
-            told = told sprintf("  %s: %s\n", $1, $2 && $3 ? $2 " by hand, " $3 " written" : $2 ? $2 " by hand" : $3 " written")
+            both = ($2 ? $2 " by hand" : "") ($2 && $3 ? ", " : "") ($3 ? $3 " written" : "")
+            told = told sprintf("  %s: %s\n", $1, both)
         }
-        END { printf "%s: %d lines by hand in %d files, %d written in %d\n%s", name, lines, files, written, others, told }' <<< "$counts"
+        END {
+            printf "%s: %d lines by hand in %d files, %d written in %d\n", name, lines, files, written, others
+            printf "%s", told
+        }' <<< "$counts"
     counts=$(awk -v pattern="$2" '$1 !~ pattern' <<< "$counts")
 }
 
@@ -42,4 +46,6 @@ kind definitions '^crates/[^/]+/specs/'
 kind proofs '^crates/[^/]+/proofs/'
 kind else .
 awk '{ files++; hand += $2; if ($2) of++; written += $3; if ($3) others++ }
-    END { printf "in all: %d lines by hand in %d files, %d written in %d, of %d files\n", hand, of, written, others, files }' <<< "$all"
+    END {
+        printf "in all: %d lines by hand in %d files, %d written in %d, of %d files\n", hand, of, written, others, files
+    }' <<< "$all"

@@ -1,10 +1,11 @@
 #!/usr/bin/env python3
 """Writes what stands in many files of each command and each reply, from the tables of protocol/ (protocol/README.md).
 
-    tools/protocol.py --write     fills the regions between lines `Written by tools/protocol.py ..` and `End of what is written ..`
+    tools/protocol.py --write     fills the regions, from `Written by tools/protocol.py ..` to `End of what is written ..`
     tools/protocol.py --check     compares them: names each file and region that differs, with the first line that does
 
-A table that is wrong is refused, with its line and field. The status is 1 where a region differs or a table is wrong."""
+A table that is wrong is refused, with its line and field. The status is 1 where a region differs or a table is
+wrong."""
 import collections
 import sys
 

@@ -1,4 +1,5 @@
-"""What is written into checks, benchmarks and the tests of the Python package: words, weights, and lines with their values."""
+"""What is written into checks, benchmarks, rows and the tests of the Python package: words, weights, and lines with
+their values."""
 import textwrap
 
 from .lines import parted, printed, values
@@ -137,7 +138,7 @@ def tuple_of(parts):
 
 def call(it, found):
     """The parts of a call that makes a line of the package, without what is left out at its end."""
-    while found and found[-1] in (None, False) and (it.kept[len(found) - 1].is_optional or it.kept[len(found) - 1].kind == "flags"):
+    while found and found[-1] in (None, False) and it.kept[len(found) - 1].may_be_left_out:
         found = found[:-1]
     parts = []
     for of, value in zip(it.kept, found):

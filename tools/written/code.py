@@ -10,26 +10,27 @@ TRIED_FIRST = ["PING", "CHANNELS", "LEAVEBATTLE", "EXIT", "LOGIN"]
 FAULTS_LAST = ["JOINBATTLEACCEPT", "JOINBATTLEDENY", "DISABLEUNITS", "ENABLEUNITS"]
 NO_COMMANDS = ["ping", "#9", "#2147483648 PING"]
 # The commands that the tests name first; a function of its own names the others.
-NAMED_FIRST = ["PING", "CHANNELS", "EXIT", "LOGIN", "MYSTATUS", "JOIN", "LEAVE", "SAY", "SAYEX", "SAYPRIVATE", "OPENBATTLE",
-               "JOINBATTLE", "LEAVEBATTLE", "SAYBATTLE", "SAYBATTLEEX", "RING"]
+NAMED_FIRST = ["PING", "CHANNELS", "EXIT", "LOGIN", "MYSTATUS", "JOIN", "LEAVE", "SAY", "SAYEX", "SAYPRIVATE",
+               "OPENBATTLE", "JOINBATTLE", "LEAVEBATTLE", "SAYBATTLE", "SAYBATTLEEX", "RING"]
 # The replies with which the arms of the library's table begin; a new row is behind them, and no arguments come last.
-ARMS = ["TASSERVER", "ADDUSER", "CLIENTSTATUS", "DENIED", "ACCEPTED", "CLIENTS", "JOINED", "SAID", "JOINFAILED", "BATTLEOPENED",
-        "OPENBATTLE", "JOINBATTLE", "JOINBATTLEREQUEST", "JOINEDBATTLE"]
+ARMS = ["TASSERVER", "ADDUSER", "CLIENTSTATUS", "DENIED", "ACCEPTED", "CLIENTS", "JOINED", "SAID", "JOINFAILED",
+        "BATTLEOPENED", "OPENBATTLE", "JOINBATTLE", "JOINBATTLEREQUEST", "JOINEDBATTLE"]
 LIBRARY_KINDS = {
-    "word": "Word", "name": "Name", "u32": "Status", "wide": "Wide", "0..65535": "Port", "sentence": "Sentence", "text": "Text",
-    "words": "Words", "names": "Names", "pairs": "Pairs", "1..2147483647": "Battle",
+    "word": "Word", "name": "Name", "u32": "Status", "wide": "Wide", "0..65535": "Port", "sentence": "Sentence",
+    "text": "Text", "words": "Words", "names": "Names", "pairs": "Pairs", "1..2147483647": "Battle",
 }
 REPLY_TYPES = {
     "word": "Word<'a>", "name": "Name<'a>", "u32": "u32", "wide": "Wide", "0..65535": "u16", "sentence": "Sentence<'a>",
-    "text": "Text<'a>", "words": "Words<'a>", "names": "Names<'a>", "pairs": "Pairs<'a>", "1..2147483647": "BattleNumber",
+    "text": "Text<'a>", "words": "Words<'a>", "names": "Names<'a>", "pairs": "Pairs<'a>",
+    "1..2147483647": "BattleNumber",
 }
 COMMAND_TYPES = {
     "word": "WordBuf", "name": "NameBuf", "u32": "u32", "wide": "i64", "sentence": "SentenceBuf", "text": "TextBuf",
     "words": "WordList", "pairs": "PairList", "flags": "bool",
 }
 COMMAND_KINDS = {
-    "word": "Word", "name": "Name", "u32": "Natural(4294967295)", "wide": "Wide", "sentence": "Sentence", "text": "Text",
-    "words": "Words", "pairs": "Pairs", "flags": "LoginFlags",
+    "word": "Word", "name": "Name", "u32": "Natural(4294967295)", "wide": "Wide", "sentence": "Sentence",
+    "text": "Text", "words": "Words", "pairs": "Pairs", "flags": "LoginFlags",
 }
 
 
@@ -85,7 +86,7 @@ def reply_drop(tables):
         parts.append(f" | Reply::{it.variant}" + (f" {{ {fields} }}" if fields else ""))
     parts[0] = parts[0].removeprefix(" | ")
     pad = " " * 12
-    return packed([*parts[:-1], parts[-1] + " => {}"], pad, pad, 112)
+    return packed([*parts[:-1], parts[-1] + " => {}"], pad, 112)
 
 
 def reply_rows(tables):
@@ -137,7 +138,7 @@ def command_row(it):
         return [whole]
     pad = " " * 20
     parts = [f" {of}" + ("," if at + 1 < len(fields) else "") for at, of in enumerate(fields)]
-    inside = packed([parts[0].lstrip(), *parts[1:]], pad, pad)
+    inside = packed(parts, pad)
     return [begin, *inside, "                }" + form]
 
 
@@ -193,7 +194,7 @@ def library_arms(tables):
         parts[0] = parts[0].removeprefix(" | ")
         whole = f" => &[{', '.join(kinds)}],"
         if len(pad + parts[0] + whole) <= WIDTH:
-            lines += packed([*parts[:-1], parts[-1] + whole], pad, pad)
+            lines += packed([*parts[:-1], parts[-1] + whole], pad)
         else:
             first = next(at for at, it in enumerate(kinds) if it == "Sentence")
             inside = [f"{pad}    {', '.join(some)}," for some in (kinds[:first], kinds[first:])]

@@ -3,9 +3,9 @@ from .layout import WIDTH, packed
 
 LETTERS = "abcdefghijklmnopqrstuvwxyz"
 REPLY_KINDS = {
-    "word": "Word", "name": "Name", "u32": "status_word", "wide": "Wide", "0..65535": "port_number", "sentence": "Sentence",
-    "text": "Text", "words": "Words", "names": "Names", "pairs": "Pairs", "1..2147483647": "battle_number", "0..15": "ally_number",
-    "0..200": "side_number",
+    "word": "Word", "name": "Name", "u32": "status_word", "wide": "Wide", "0..65535": "port_number",
+    "sentence": "Sentence", "text": "Text", "words": "Words", "names": "Names", "pairs": "Pairs",
+    "1..2147483647": "battle_number", "0..15": "ally_number", "0..200": "side_number",
 }
 # The parts of the table of commands: the name of each, and what its comment says.
 PARTS = {
@@ -59,7 +59,8 @@ def command_of(tables):
 
 
 def values_of(tables):
-    lines = ["-- the values of its arguments", "abbrev pub values_of : (r : Reply) → Values (kinds_of (command_of r))"]
+    lines = ["-- the values of its arguments",
+             "abbrev pub values_of : (r : Reply) → Values (kinds_of (command_of r))"]
     for it in tables.replies.numbered():
         values = "(a, opened_values b)" if it.has_rest else nested(LETTERS[: arity(it)])
         lines.append(f"values_of {pattern(it)} = {values}")
@@ -73,12 +74,13 @@ def commands(tables):
     lines = ["-- all command words", "abbrev pub commands : List CommandWord", "commands ="]
     for at in range(0, len(parts), 6):
         some = parts[at:at + 6]
-        lines += packed([some[0].removeprefix(" ∷ " if at == 0 else " "), *some[1:]], pad, pad)
+        lines += packed([some[0].removeprefix(" ∷ " if at == 0 else " "), *some[1:]], pad)
     return lines
 
 
 def reply_of_values(tables):
-    lines = ["-- the reply of these arguments", "abbrev pub reply_of_values : (c : CommandWord) → Values (kinds_of c) → Reply"]
+    lines = ["-- the reply of these arguments",
+             "abbrev pub reply_of_values : (c : CommandWord) → Values (kinds_of c) → Reply"]
     for it in tables.replies.numbered():
         values = "".join(f" x{'.1' * at}.0" for at in range(arity(it)))
         values = " x.0 (opened_of_values x.1)" if it.has_rest else values
@@ -92,7 +94,8 @@ def entries(tables):
     for part in reversed(PARTS):
         name, says = PARTS[part]
         lines += [f"-- {says}", f"unfoldable pub {name} : List Entry", f"{name} ="]
-        rows = [f'entry (codes "{it.word}") {it.row} command.{it.variant}' for it in tables.commands.numbered() if it.part == part]
+        some = [it for it in tables.commands.numbered() if it.part == part]
+        rows = [f'entry (codes "{it.word}") {it.row} command.{it.variant}' for it in some]
         lines += [f"    {rows[0]}", *(f"    ∷ {it}" for it in rows[1:]), f"    ∷ {behind}", ""]
         behind = name
     return lines[:-1]
@@ -115,7 +118,7 @@ def clause(head, row, names):
     if len(f"{head} {row}") <= WIDTH:
         return [f"{head} {row}", f"    {nested(names)}"]
     words = head.split(" ")
-    heads = packed([words[0], *(f" {it}" for it in words[1:])], "", " " * 4)
+    heads = packed([f" {it}" for it in words], " " * 4, first="")
     return [*heads, f"    {row} (", *tower(names, 6), "    )"]
 
 

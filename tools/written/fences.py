@@ -4,8 +4,8 @@ from dataclasses import dataclass
 from typing import Callable
 
 # How a comment begins and ends, by the file's suffix.
-MARKS = {".rt": ("// ", ""), ".rs": ("// ", ""), ".antt": ("-- ", ""), ".py": ("# ", ""), ".row": ("# ", ""), ".h": ("/* ", " */"),
-         ".md": ("<!-- ", " -->")}
+MARKS = {".rt": ("// ", ""), ".rs": ("// ", ""), ".antt": ("-- ", ""), ".py": ("# ", ""), ".row": ("# ", ""),
+         ".h": ("/* ", " */"), ".md": ("<!-- ", " -->")}
 
 
 class FenceError(Exception):
@@ -35,7 +35,8 @@ class Region:
         for fence in self.fences():
             found = [number for number, line in enumerate(lines) if line == fence]
             if len(found) != 1:
-                raise FenceError(f"{self.file}: the line {fence.strip()!r} stands {len(found)} times, and is to stand once")
+                count = f"stands {len(found)} times, and is to stand once"
+                raise FenceError(f"{self.file}: the line {fence.strip()!r} {count}")
             at.append(found[0])
         if at[1] < at[0]:
             raise FenceError(f"{self.file}: {self.name} ends before it begins")

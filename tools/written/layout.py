@@ -4,23 +4,22 @@ import textwrap
 WIDTH = 120
 
 
-def packed(parts, first, others, width=WIDTH):
-    """As many parts a line as it has room for: the first line begins with `first`, and each further one with `others`, in front of a part
-    that begins with its own mark."""
-    lines, line = [], first
-    for at, part in enumerate(parts):
-        part = part if line == first else part.lstrip(" ") if line == others else part
-        if line not in (first, others) and len(line) + len(part) > width:
-            lines.append(line)
-            line = others + part.lstrip(" ")
+def packed(parts, pad, width=WIDTH, first=None):
+    """As many parts a line as it has room for. A line begins with the pad, the first one with `first` where that
+    is given, and a part that begins a line loses the space before it."""
+    lines = []
+    for part in parts:
+        if lines and len(lines[-1]) + len(part) <= width:
+            lines[-1] += part
         else:
-            line += part
-    return [*lines, line]
+            lines.append((pad if lines or first is None else first) + part.lstrip(" "))
+    return lines
 
 
 def comment(mark, text, width):
     """A comment, as many words a line as it has room for. Code in quotes is broken as other words are."""
-    return textwrap.wrap(text, width, initial_indent=mark, subsequent_indent=mark, break_long_words=False, break_on_hyphens=False)
+    how = {"break_long_words": False, "break_on_hyphens": False}
+    return textwrap.wrap(text, width, initial_indent=mark, subsequent_indent=mark, **how)
 
 
 def literal(line):

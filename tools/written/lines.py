@@ -1,4 +1,5 @@
-"""Reading a line by its arguments, as docs/PROTOCOL.md says, and printing its values again. A line is a text whose characters are its bytes."""
+"""Reading a line by its arguments, as docs/PROTOCOL.md says, and printing its values again. A line is a text whose
+characters are its bytes."""
 import re
 
 from .table import RANGES
@@ -21,8 +22,8 @@ def parted(line):
 
 
 def values(arguments, rest):
-    """The values of these arguments in what is behind a word: numbers, texts, lists of words or pairs, and whether `b` is a flag. None for
-    what is left out."""
+    """The values of these arguments in what is behind a word: numbers, texts, lists of words or pairs, and whether `b`
+    is a flag. None for what is left out."""
     if "\r" in rest or "\n" in rest:
         raise LineFault("bad byte")
     found, mark = [], " "       # what stands before a sentence
@@ -99,7 +100,8 @@ def printed(arguments, found):
         elif it.is_list:
             text += "".join(f" {word}" for word in value)
         elif value is not None:
-            text += (mark if it.kind in ("sentence", "text") else " ") + str(int(value) if isinstance(value, bool) else value)
+            text += mark if it.kind in ("sentence", "text") else " "
+            text += str(int(value) if isinstance(value, bool) else value)
         if it.kind in ("sentence", "text"):
             mark = "\t"
     return text

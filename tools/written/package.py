@@ -1,8 +1,10 @@
-"""What is written for programs that use the library: the numbers of include/lobby.h and the classes of the Python package."""
+"""What is written for programs that use the library: the numbers of include/lobby.h, and the classes of the Python
+package."""
 
 PYTHON = {
-    "word": "Word", "name": "Name", "u32": "U32", "wide": "Wide", "0..65535": "U16", "sentence": "Sentence", "text": "Text",
-    "words": "Words", "names": "Names", "pairs": "Pairs", "1..2147483647": "BattleID", "0..15": "Team", "0..200": "Side",
+    "word": "Word", "name": "Name", "u32": "U32", "wide": "Wide", "0..65535": "U16", "sentence": "Sentence",
+    "text": "Text", "words": "Words", "names": "Names", "pairs": "Pairs", "1..2147483647": "BattleID",
+    "0..15": "Team", "0..200": "Side",
 }
 
 

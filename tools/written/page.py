@@ -1,4 +1,5 @@
-"""What is written into docs/PROTOCOL.md: a heading for each command with all that is said of it, and the table of replies."""
+"""What is written into docs/PROTOCOL.md: a heading for each command with all that is said of it, and the table of
+replies."""
 from .table import FAULTS
 
 # Who may say a command: how the page calls it, and what another is told.
@@ -12,8 +13,8 @@ CALLED = {
 
 def shown(line):
     """A line in a sentence, with bytes that would not be seen as a script has them."""
-    seen = "".join("\\t" if it == "\t" else "\\r" if it == "\r" else it if " " <= it <= "~" else f"\\x{ord(it):02X}" for it in line)
-    return f"`{seen}`"
+    names = {"\t": "\\t", "\r": "\\r"}
+    return "`" + "".join(names.get(it) or (it if " " <= it <= "~" else f"\\x{ord(it):02X}") for it in line) + "`"
 
 
 def index(tables):

@@ -1,4 +1,5 @@
-"""The two tables of the protocol: reading them, and what is wrong with one. protocol/README.md says what each field is."""
+"""The two tables of the protocol: reading them, and what is wrong with one. protocol/README.md says what each field
+is."""
 import re
 import tomllib
 from dataclasses import dataclass, field
@@ -30,6 +31,10 @@ class Argument:
         """The least and the largest number; None where it is none."""
         found = re.fullmatch(r"(\d+)\.\.(\d+)", self.kind)
         return RANGES.get(self.kind) or (found and (int(found[1]), int(found[2]))) or None
+
+    @property
+    def may_be_left_out(self):
+        return self.is_optional or self.kind == "flags"
 
     @property
     def is_yes_or_no(self):
@@ -117,7 +122,7 @@ class Command(Line):
     row: str = "[]"             # the name of its row of kinds, in Table.antt
     reader: str = ""            # what reads that row, where no other command has it
     bad: list = field(default_factory=list)         # lines with their fault
-    refusals: list = field(default_factory=list)    # lines that refuse it, with when, in the order in which they are looked at
+    refusals: list = field(default_factory=list)    # lines that refuse it, each with when it does, in their order
     tried: list = field(default_factory=list)       # lines that the rows of refusals try
     weight: int = 0             # how often checks/python_sessions.py asks for it beside the others
 
