@@ -50,6 +50,7 @@ REGIONS = [
     Region("python/tests/test_reply.py", "lines", "replies", checks.tested_replies),
     Region("python/tests/test_request.py", "lines", "commands", checks.tested_requests),
     Region("checks/hostile.py", "words", "commands", checks.hostile_words),
+    Region("checks/mixed.py", "words", "commands", checks.mixed_words),
     Region("checks/python_sessions.py", "weights", "commands", checks.session_weights),
     Region("checks/lines_wanted.py", "replies", "replies", checks.library_replies),
     Region("checks/lines_wanted.py", "requests", "commands", checks.library_requests),
