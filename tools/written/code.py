@@ -8,6 +8,10 @@ DECLARED_FIRST = ["LOGIN", "PING", "CHANNELS", "LEAVEBATTLE", "EXIT"]
 TRIED_FIRST = ["PING", "CHANNELS", "LEAVEBATTLE", "EXIT", "LOGIN"]
 # Of the tests' lines with a fault those of these commands stand behind the others.
 FAULTS_LAST = ["JOINBATTLEACCEPT", "JOINBATTLEDENY", "DISABLEUNITS", "ENABLEUNITS"]
+# The lines of these stand with their faults in command_grammar/proofs/Examples.antt, and no test has them.
+FAULTS_PROVED = ["LOGIN", "LEAVE", "SAYEX", "SAYPRIVATE", "OPENBATTLE", "JOINBATTLE", "UPDATEBATTLEINFO", "MYBATTLESTATUS",
+                 "SAYBATTLE", "SAYBATTLEEX", "ADDBOT", "UPDATEBOT", "REMOVEBOT", "ADDSTARTRECT", "HANDICAP", "FORCETEAMNO",
+                 "FORCEALLYNO", "FORCETEAMCOLOR", "FORCESPECTATORMODE", "KICKFROMBATTLE", "RING"]
 NO_COMMANDS = ["ping", "#9", "#2147483648 PING"]
 # The commands that the tests name first; a function of its own names the others.
 NAMED_FIRST = ["PING", "CHANNELS", "EXIT", "LOGIN", "MYSTATUS", "JOIN", "LEAVE", "SAY", "SAYEX", "SAYPRIVATE",
@@ -205,7 +209,8 @@ def library_arms(tables):
 def bad_lines(tables):
     """The lines with a fault, by faults."""
     found = [(line, "unknown command") for line in NO_COMMANDS]
-    last = sorted(tables.commands.numbered(), key=lambda it: it.word in FAULTS_LAST)
+    tried = [it for it in tables.commands.numbered() if it.word not in FAULTS_PROVED]
+    last = sorted(tried, key=lambda it: it.word in FAULTS_LAST)
     found += sorted((bad for it in last for bad in it.bad), key=lambda bad: FAULTS.index(bad[1]))
     rows = [f"    ({literal(line)}, ReadFault::{fault.title().replace(' ', '')})," for line, fault in found]
     return [f"static FAULTS: [(&[u8], ReadFault); {len(rows)}] = [", *rows, "];"]
