@@ -200,3 +200,27 @@ def mixed_words(tables):
             shapes.setdefault(it.arguments, []).append(f'"{it.word}"')
     rows = [f'    "{arguments}": ({", ".join(words)}),' for arguments, words in shapes.items() if words[1:]]
     return ["WORDS_OF = {", *rows, "}"]
+
+
+def place_of(it):
+    """The place of an argument in a line of checks/python_views.py; nothing of one that may be left out."""
+    if it.is_optional:
+        return ""
+    if it.kind == "pairs":
+        return "{keys}={text}"
+    if it.is_list:
+        return f"{{{it.name}}} {{{it.name}}}"
+    if it.kind == "name":
+        return "{channel}" if it.name == "channel" else "{user}"
+    return f"{{{it.name if it.kind == 'word' else it.kind}}}"
+
+
+def view_lines(tables):
+    """A line of each reply with its arguments as places, but for the one with which a view begins."""
+    lines = ["LINES = ["]
+    for it in tables.replies.lines:
+        if it.word != "ACCEPTED":
+            places = printed(it.kept, [place_of(of) or None for of in it.kept if not of.is_list])
+            places += "".join(f" {place_of(of)}" for of in it.kept if of.is_list)
+            lines.append(f"    {quoted(it.word + places)},")
+    return [*lines, "]"]

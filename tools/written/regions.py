@@ -52,6 +52,7 @@ REGIONS = [
     Region("checks/hostile.py", "words", "commands", checks.hostile_words),
     Region("checks/mixed.py", "words", "commands", checks.mixed_words),
     Region("checks/python_sessions.py", "weights", "commands", checks.session_weights),
+    Region("checks/python_views.py", "lines", "replies", checks.view_lines),
     Region("checks/lines_wanted.py", "replies", "replies", checks.library_replies),
     Region("checks/lines_wanted.py", "requests", "commands", checks.library_requests),
     Region("bench/lines.rs", "words", "commands", checks.bench_words, 8),
