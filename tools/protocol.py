@@ -11,6 +11,7 @@ import sys
 
 from written.fences import FenceError, difference, fenced
 from written.lines import check_lines
+from written.named import check_named
 from written.numbers import check_numbers
 from written.regions import REGIONS
 from written.table import ROOT, TableError, Tables
@@ -58,6 +59,7 @@ def differences(tables):
 
 
 def check(tables):
+    check_named(tables)
     found = [*differences(tables)]
     for it in found:
         print(it)
