@@ -1,5 +1,6 @@
 """What is written into the code of the crates: enums, words, rows and counts."""
 from .layout import WIDTH, comment, literal, packed
+from .lines import parted, printed, values
 from .table import FAULTS
 
 # The variants that the enum of commands has before the others, which follow by number.
@@ -9,10 +10,16 @@ TRIED_FIRST = ["PING", "CHANNELS", "LEAVEBATTLE", "EXIT", "LOGIN"]
 # Of the tests' lines with a fault those of these commands stand behind the others.
 FAULTS_LAST = ["JOINBATTLEACCEPT", "JOINBATTLEDENY", "DISABLEUNITS", "ENABLEUNITS"]
 # The lines of these stand with their faults in command_grammar/proofs/Examples.antt, and no test has them.
-FAULTS_PROVED = ["LOGIN", "LEAVE", "SAYEX", "SAYPRIVATE", "OPENBATTLE", "JOINBATTLE", "UPDATEBATTLEINFO", "MYBATTLESTATUS",
-                 "SAYBATTLE", "SAYBATTLEEX", "ADDBOT", "UPDATEBOT", "REMOVEBOT", "ADDSTARTRECT", "HANDICAP", "FORCETEAMNO",
-                 "FORCEALLYNO", "FORCETEAMCOLOR", "FORCESPECTATORMODE", "KICKFROMBATTLE", "RING"]
+FAULTS_PROVED = ["LOGIN", "LEAVE", "SAYEX", "SAYPRIVATE", "OPENBATTLE", "JOINBATTLE", "UPDATEBATTLEINFO",
+                 "MYBATTLESTATUS", "SAYBATTLE", "SAYBATTLEEX", "ADDBOT", "UPDATEBOT", "REMOVEBOT", "ADDSTARTRECT",
+                 "HANDICAP", "FORCETEAMNO", "FORCEALLYNO", "FORCETEAMCOLOR", "FORCESPECTATORMODE", "KICKFROMBATTLE",
+                 "RING"]
 NO_COMMANDS = ["ping", "#9", "#2147483648 PING"]
+# Of these the tests print only the lines behind the first. Blank lines stand before all, and two texts behind all.
+PRINTED_OTHERWISE = ["LEAVE", "OPENBATTLE", "JOINBATTLE", "JOINBATTLEDENY", "ADDSTARTRECT", "REMOVESTARTRECT",
+                     "REMOVESCRIPTTAGS", "HANDICAP", "RING"]
+BLANK = [("", ""), ("  #7  ", "#7 ")]
+TEXTS = ["SAYBATTLE \xc3\xa4\xff\0", "SAYPRIVATE Bert "]
 # The commands that the tests name first; a function of its own names the others.
 NAMED_FIRST = ["PING", "CHANNELS", "EXIT", "LOGIN", "MYSTATUS", "JOIN", "LEAVE", "SAY", "SAYEX", "SAYPRIVATE",
                "OPENBATTLE", "JOINBATTLE", "LEAVEBATTLE", "SAYBATTLE", "SAYBATTLEEX", "RING"]
@@ -212,8 +219,31 @@ def bad_lines(tables):
     tried = [it for it in tables.commands.numbered() if it.word not in FAULTS_PROVED]
     last = sorted(tried, key=lambda it: it.word in FAULTS_LAST)
     found += sorted((bad for it in last for bad in it.bad), key=lambda bad: FAULTS.index(bad[1]))
-    rows = [f"    ({literal(line)}, ReadFault::{fault.title().replace(' ', '')})," for line, fault in found]
-    return [f"static FAULTS: [(&[u8], ReadFault); {len(rows)}] = [", *rows, "];"]
+    rows = [row for line, fault in found for row in pair(literal(line), f"ReadFault::{fault.title().replace(' ', '')}")]
+    return [f"static FAULTS: [(&[u8], ReadFault); {len(found)}] = [", *rows, "];"]
+
+
+def pair(one, other):
+    """An entry of two, as `rt fmt` lays it out."""
+    if len(f"{one}, {other}") <= 60:
+        return [f"    ({one}, {other}),"]
+    return ["    (", f"        {one},", f"        {other},", "    ),"]
+
+
+def printed_lines(tables):
+    """Lines of commands, each with the line that it prints as."""
+    found = list(BLANK)
+    for it in first_of(TRIED_FIRST, tables.commands.numbered()):
+        found += [(line, printed_as(it, line)) for line in it.good[it.word in PRINTED_OTHERWISE:]]
+    found += [(line, line) for line in TEXTS]
+    rows = [row for one, other in found for row in pair(literal(one), literal(other))]
+    return [f"static PRINTED_LINES: [(&[u8], &[u8]); {len(found)}] = [", *rows, "];"]
+
+
+def printed_as(it, line):
+    """The line that a command's line prints as."""
+    number, word, rest = parted(line)
+    return ("" if number is None else f"#{number} ") + word + printed(it.kept, values(it.kept, rest))
 
 
 def tested_word(it):

@@ -45,11 +45,10 @@ def refusals(it):
 
 
 def examples(it):
-    """Its good lines, and its bad ones with their fault."""
-    good = " and ".join(map(shown, it.good))
+    """Its first good line, and its bad ones with their fault."""
     bad = sorted(it.bad, key=lambda bad: FAULTS.index(bad[1]))
     faults = ", ".join(f"{shown(line)} ({fault})" for line, fault in bad)
-    return f"Good: {good}." + (f" Bad: {faults}." if faults else "")
+    return f"Good: {shown(it.good[0])}." + (f" Bad: {faults}." if faults else "")
 
 
 def replies(tables):

@@ -37,6 +37,7 @@ REGIONS = [
     Region("crates/lobby_lines/src/request_table.rt", "count", "commands", code.command_count),
     Region("crates/leaf_tests/src/requests.rt", "good lines", "commands", code.good_lines),
     Region("crates/leaf_tests/src/requests.rt", "bad lines", "commands", code.bad_lines),
+    Region("crates/leaf_tests/src/requests.rt", "printed lines", "commands", code.printed_lines),
     Region("crates/leaf_tests/src/requests.rt", "words", "commands", code.tested_words, 8),
     Region("crates/leaf_tests/src/requests.rt", "other words", "commands", code.other_tested_words, 8),
     Region("crates/lobby_lines/src/reply_table.rt", "kinds", "replies", code.library_arms, 8),

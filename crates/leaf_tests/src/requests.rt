@@ -408,6 +408,7 @@ fn arguments_are_read(rt: HostRuntime) {
 }
 
 /// A line of each command, with and without what may be left out, and the line that its request prints as.
+// Written by tools/protocol.py of protocol/commands.toml: printed lines.
 static PRINTED_LINES: [(&[u8], &[u8]); 56] = [
     (b"", b""),
     (b"  #7  ", b"#7 "),
@@ -499,6 +500,7 @@ static PRINTED_LINES: [(&[u8], &[u8]); 56] = [
     (b"SAYBATTLE \xC3\xA4\xFF\x00", b"SAYBATTLE \xC3\xA4\xFF\x00"),
     (b"SAYPRIVATE Bert ", b"SAYPRIVATE Bert "),
 ];
+// End of what is written: printed lines.
 
 #[test]
 fn each_request_is_printed_as_it_reads(rt: HostRuntime) {
