@@ -149,7 +149,6 @@ REQUESTS = [
 # Further ones, some with arguments that are left out.
 OTHERS = [
     ("LOGIN", ["Anna", "w", -5, "*", "a lobby", 0], " Anna w -5 * a lobby"),
-    ("MYSTATUS", [4294967295], " 4294967295"),
     ("SAY", ["main", "hello  there\t!"], " main hello  there\t!"),
     (
         "OPENBATTLE",
@@ -157,12 +156,8 @@ OTHERS = [
         " 1 2 * 65535 16 -2147483648 0 4294967295 Recoil\t105.1\tDelta Siege\tOpen to all\t",
     ),
     ("JOINBATTLE", [0, "key", "sesame"], " 0 key sesame"),
-    ("JOINBATTLEDENY", ["Bert", ""], " Bert "),
     ("LOGIN", ["Anna", "w", 0, "*", "a lobby", 1], " Anna w 0 * a lobby\t\tb"),
-    ("JOIN", ["main", "key"], " main key"),
-    ("JOINBATTLE", [1, None, None], " 1"),
     ("JOINBATTLE", [1, "key", None], " 1 key"),
-    ("JOINBATTLEDENY", ["Bert", None], " Bert"),
     ("SAYBATTLE", ["a" * 8182], " " + "a" * 8182),
 ]
 
