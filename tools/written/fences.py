@@ -55,7 +55,8 @@ def difference(region, lines, wanted):
     for at in range(max(len(there), len(wanted))):
         one, other = (it[at] if at < len(it) else None for it in (there, wanted))
         if one != other:
-            has = "ends" if one is None else f"has {one.strip()!r}"
-            says = "ends" if other is None else f"says {other.strip()!r}"
+            seen = [it and it.strip() for it in (one, other)]
+            seen = [one, other] if seen[0] == seen[1] else seen
+            has, says = ("ends" if it is None else f"{verb} {it!r}" for it, verb in zip(seen, ("has", "says")))
             return f"{region.file}:{begin + at + 1}: {region.name}: it {has}, and the table {says}"
     return None
