@@ -11,7 +11,6 @@ REPLIES = [
     ("MOTD ", [""]),
     ("SERVERMSG Log in first", ["Log in first"]),
     ("SERVERMSG a tab\tand two  spaces ", ["a tab\tand two  spaces "]),
-    ("ADDUSER Bert ?? 2400 2", ["Bert", "??", 2400, 2]),
     ("ADDUSER [x]_9 SE -2147483648 4294967295", ["[x]_9", "SE", -2147483648, 4294967295]),
     ("REMOVEUSER Anna", ["Anna"]),
     ("CLIENTSTATUS Bert 12", ["Bert", 12]),

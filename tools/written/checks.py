@@ -86,8 +86,9 @@ def fields(arguments, found):
 
 
 def is_plain(line):
-    """Whether a line is UTF-8, without NUL, as checks/lines.c takes it."""
-    return all(it == "\t" or it.isprintable() for it in text_of(line))
+    """Whether checks/library.py can tell a line: it is UTF-8 without NUL, and no word of it begins with a mark of that
+    check's own."""
+    return all(it == "\t" or it.isprintable() for it in text_of(line)) and not any(f" {it}" in line for it in ">?")
 
 
 def library_replies(tables):
@@ -103,8 +104,9 @@ def library_requests(tables):
     lines = ["REQUESTS = ["]
     for it in tables.commands.numbered():
         for line, found in lines_of(it):
-            behind = quoted(text_of(line[len(it.word):]))
-            lines += entry(f'("{it.word}", ', fields(it.kept, found), f", {behind}")
+            if is_plain(line):
+                behind = quoted(text_of(line[len(it.word):]))
+                lines += entry(f'("{it.word}", ', fields(it.kept, found), f", {behind}")
     return [*lines, "]"]
 
 
