@@ -418,6 +418,28 @@ def check_restart():
         tells("and systemctl was not called", called.read_text() == "restart rudderraisin\n" * 2, called.read_text())
 
 
+def check_restart_as_its_user():
+    """What root may and the server's user may not keeps the server from a restart: here a folder of records."""
+    if os.geteuid():
+        print("accounts: another user: only root can try it")
+        return
+    with Room(ONE) as room:
+        tool, check, systemctl = (room.path / it for it in ("lobby_account", "lobby_check", "systemctl"))
+        tool.write_text(Path(TOOL).read_text(encoding="utf-8").replace('USER = "rudderraisin"', 'USER = "nobody"'), encoding="utf-8")
+        shutil.copy(os.environ["LOBBY_CHECK"], check)
+        systemctl.write_text(f'#!/bin/sh\n: > "{room.path}/called"\n')
+        for it in room.path, check, systemctl:
+            it.chmod(0o755)
+        room.file.chmod(0o644)
+        (room.path / "records").mkdir(mode=0o700)
+        room.settings.write_text(f'address = "{ADDRESS}:{free_port()}"\nrecord = "{room.path}/records"\n')
+        call = [sys.executable, tool, "password", "Anna", "--restart", "--accounts", room.file, "--settings", room.settings]
+        env = {**os.environ, "LOBBY_CHECK": str(check), "PATH": f"{room.path}:{os.environ['PATH']}"}
+        ran = subprocess.run(call, input=b"p\n", capture_output=True, timeout=120, check=False, env=env)
+        is_so = ran.returncode == 3 and b"records: no file can be written there" in ran.stderr and b"tried as nobody" in ran.stderr
+        tells("--restart tries the files as the server's user", is_so and not (room.path / "called").exists(), ran)
+
+
 def answer(port, name, password):
     """The first line behind the greeting that a login gets."""
     with socket.create_connection((ADDRESS, port), PATIENCE) as link:
@@ -453,7 +475,7 @@ def main():
             shutil.copy(os.environ[name.upper()], programs)
         for it in (check_add, check_refused_adds, check_changes, check_format, check_list, check_broken, check_terminal, check_hash,
                    check_killed, check_two,
-                   check_full_disk, check_restart, check_server):
+                   check_full_disk, check_restart, check_restart_as_its_user, check_server):
             it()
         check_permission(Path(programs))
     print(f"accounts: {counts[True]} passed, {counts[False]} failed")

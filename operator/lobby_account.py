@@ -9,6 +9,7 @@ import copy
 import fcntl
 import getpass
 import os
+import pwd
 import re
 import shutil
 import signal
@@ -26,6 +27,8 @@ except ImportError:
 VERSION = "unreleased"
 CONFIGURATION = "/etc/rudderraisin"
 UNIT = "rudderraisin"
+# As whom the server runs, of whom root tries the files before a restart.
+USER = "rudderraisin"
 # How long it waits for another one that changes the file, in seconds.
 PATIENCE = 10
 GREATEST_ID = 4294967295
@@ -215,10 +218,21 @@ def locked(folder):
         os.close(handle)
 
 
-def checked(settings, accounts):
+def as_server():
+    """How root runs a program as the server's user, who may do less; nothing where there is none, or for anybody else."""
+    try:
+        user = pwd.getpwnam(USER)
+    except KeyError:
+        return {}
+    if os.geteuid():
+        return {}
+    return {"user": user.pw_uid, "group": user.pw_gid, "extra_groups": os.getgrouplist(USER, user.pw_gid), "cwd": "/"}
+
+
+def checked(settings, accounts, **how):
     """What lobby_check says of two files, and whether it takes them."""
     ran = subprocess.run([program("lobby_check"), str(settings), str(accounts)], stdin=subprocess.DEVNULL,
-                         stdout=subprocess.PIPE, stderr=subprocess.STDOUT, check=False)
+                         stdout=subprocess.PIPE, stderr=subprocess.STDOUT, check=False, **how)
     return ran.returncode == 0, ran.stdout.decode("utf-8", "replace").splitlines()
 
 
@@ -362,7 +376,10 @@ def show_list(book):
 
 def restart(options):
     """Starts the server anew, if its files are good."""
-    is_good, told = checked(options.settings, options.accounts)
+    try:
+        is_good, told = checked(Path(options.settings).resolve(), Path(options.accounts).resolve(), **as_server())
+    except OSError as error:
+        raise NotRestarted(f"lobby_check cannot be run as {USER}: {error.strerror}") from None
     if not is_good:
         raise NotRestarted("\n".join(["the server is not started anew, for lobby_check refuses its files:", *told]))
     try:
