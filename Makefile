@@ -47,11 +47,15 @@ python: library ## makes the wheel of the Python package, with the C library in 
 	@rm -f out/rudderraisin-*.whl
 	@echo "out/$$(python/build_wheel.py bin/liblobby.so out) is made"
 
-test: ## the gate: proves what no run here proved before, tries wrong bodies, runs all tests
+test: ## the gate: quick checks first, then proves what no run here proved before, tries wrong bodies, runs all tests
 	@tools/gate.py
 
-unit: ## runs the tests of what you changed, without a proof (CRATE=lobby_tests)
+unit: ## runs quick checks and the tests of what you changed, without a proof (CRATE=lobby_tests)
 	@tools/unit.sh $(CRATE)
+
+.PHONY: protocol
+protocol: ## writes what many files have of each command and reply, from the tables of protocol/
+	@tools/protocol.py --write
 
 fmt: ## lays out the crates that you changed
 	@for crate in $$(tools/changed.sh); do (cd crates/$$crate && rt fmt) || exit 1; done

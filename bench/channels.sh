@@ -1,6 +1,6 @@
 #!/usr/bin/env bash
 # What channels cost in which one user is alone: bytes for each, a join, a line of CHANNELS, and the log out of one who is in
-# all of them. Medians of 5 runs, in turn with a hand-written Rust program; names come in their order, and in none.
+# all of them. Medians of 5 runs, in turn with a hand-written Rust program; names come in their order, and scattered.
 # The first argument is the number of channels, 100,000; a second is another build of bench_lobby.
 set -euo pipefail
 cd "$(dirname "$0")/.."
@@ -46,7 +46,7 @@ done | awk -v channels="$channels" '
     }
     function row(what, name, scale, stride,    lobby, baseline) {
         lobby = median("lobby", what, stride) * scale; baseline = median("baseline", what, stride) * scale
-        printf "%s | %s | %.1f | %.1f | %.2f\n", name, stride == 1 ? "in order" : "in none", lobby, baseline, lobby / baseline
+        printf "%s | %s | %.1f | %.1f | %.2f\n", name, stride == 1 ? "in order" : "scattered", lobby, baseline, lobby / baseline
     }
     END {
         if (!(("lobby", "leaves:", 7919) in count)) exit 1

@@ -1,6 +1,6 @@
 //! Reads and prints the mixes of lines of bench/programs/bench_grammar, written by hand over Rust's std alone: its baseline.
 //!
-//! It knows all 36 command words, and reads the arguments of the commands of the mix by the same rules: bytes without CR and
+//! It knows all command words, and reads the arguments of the commands of the mix by the same rules: bytes without CR and
 //! LF, words behind runs of spaces, names of 1 to 20 letters, numbers within bounds, and each argument that is kept owned.
 #![allow(dead_code)] // The fields that only other programs would read are parsed all the same.
 
@@ -154,6 +154,7 @@ fn read_command(text: &[u8]) -> Result<Command, Fault> {
             team_color: words.number(-2147483648, 4294967295)?,
         },
         b"SETSCRIPTTAGS" => Command::SetScriptTags { pairs: pairs(words.text()?)? },
+        // Written by tools/protocol.py of protocol/commands.toml: words.
         b"PING" => Command::Other(0),
         b"EXIT" => Command::Other(1),
         b"LOGIN" => Command::Other(2),
@@ -163,28 +164,29 @@ fn read_command(text: &[u8]) -> Result<Command, Fault> {
         b"SAYEX" => Command::Other(6),
         b"SAYPRIVATE" => Command::Other(7),
         b"OPENBATTLE" => Command::Other(8),
-        b"LEAVEBATTLE" => Command::Other(9),
-        b"UPDATEBATTLEINFO" => Command::Other(10),
-        b"SAYBATTLE" => Command::Other(11),
-        b"SAYBATTLEEX" => Command::Other(12),
-        b"ADDBOT" => Command::Other(13),
-        b"UPDATEBOT" => Command::Other(14),
-        b"REMOVEBOT" => Command::Other(15),
-        b"ADDSTARTRECT" => Command::Other(16),
-        b"REMOVESTARTRECT" => Command::Other(17),
-        b"REMOVESCRIPTTAGS" => Command::Other(18),
-        b"HANDICAP" => Command::Other(19),
-        b"FORCETEAMNO" => Command::Other(20),
-        b"FORCEALLYNO" => Command::Other(21),
-        b"FORCETEAMCOLOR" => Command::Other(22),
-        b"FORCESPECTATORMODE" => Command::Other(23),
-        b"KICKFROMBATTLE" => Command::Other(24),
-        b"RING" => Command::Other(25),
-        b"JOINBATTLEACCEPT" => Command::Other(26),
-        b"JOINBATTLEDENY" => Command::Other(27),
-        b"DISABLEUNITS" => Command::Other(28),
-        b"ENABLEUNITS" => Command::Other(29),
-        b"ENABLEALLUNITS" => Command::Other(30),
+        b"JOINBATTLEACCEPT" => Command::Other(9),
+        b"JOINBATTLEDENY" => Command::Other(10),
+        b"LEAVEBATTLE" => Command::Other(11),
+        b"UPDATEBATTLEINFO" => Command::Other(12),
+        b"SAYBATTLE" => Command::Other(13),
+        b"SAYBATTLEEX" => Command::Other(14),
+        b"ADDBOT" => Command::Other(15),
+        b"UPDATEBOT" => Command::Other(16),
+        b"REMOVEBOT" => Command::Other(17),
+        b"ADDSTARTRECT" => Command::Other(18),
+        b"REMOVESTARTRECT" => Command::Other(19),
+        b"REMOVESCRIPTTAGS" => Command::Other(20),
+        b"DISABLEUNITS" => Command::Other(21),
+        b"ENABLEUNITS" => Command::Other(22),
+        b"ENABLEALLUNITS" => Command::Other(23),
+        b"HANDICAP" => Command::Other(24),
+        b"FORCETEAMNO" => Command::Other(25),
+        b"FORCEALLYNO" => Command::Other(26),
+        b"FORCETEAMCOLOR" => Command::Other(27),
+        b"FORCESPECTATORMODE" => Command::Other(28),
+        b"KICKFROMBATTLE" => Command::Other(29),
+        b"RING" => Command::Other(30),
+        // End of what is written: words.
         _ => return Err(Fault::UnknownCommand),
     })
 }

@@ -409,11 +409,11 @@ def check_restart():
             is_so = ran.returncode == wanted and word_of("p") in room.file.read_text() and is_told
             tells(what, is_so, ran)
 
-        restarts("the server is started anew", 0, 0, "rudderraisin is started anew")
+        restarts("the server is restarted", 0, 0, "rudderraisin is restarted")
         restarts("a start that fails is told", 1, 3, "journalctl -u rudderraisin")
         tells("it is systemctl that does it", called.read_text() == "restart rudderraisin\n" * 2, called.read_text())
         room.settings.write_text("workers = 1\n")
-        restarts("a server is not ended by settings that it would refuse", 0, 3, "not started anew",
+        restarts("a server is not ended by settings that it would refuse", 0, 3, "not restarted",
                  "`address` is missing")
         tells("and systemctl was not called", called.read_text() == "restart rudderraisin\n" * 2, called.read_text())
 

@@ -10,9 +10,9 @@ ROOT = Path(__file__).resolve().parent.parent
 PAGE = ROOT / "docs/DEFINITIONS.md"
 HEAD = """# Definitions
 
-A contract speaks of values: numbers, lists, records. What it sees of a type stands at the type, as `Value` and `view`. The definitions that it cites stand in `specs/` of the lowest crate that needs them, with comments. `checks/definitions.py --mend` writes this list of their files, from the lowest crate up.
+A contract speaks of values: numbers, lists, records. What it sees of a type stands at the type, as `Value` and `view`. The definitions that it cites stand in `specs/` of the lowest crate that needs them, with comments. `checks/definitions.py --mend` writes this list of their files, from the lowest crate up. [PROOF](PROOF.md#from-here-to-the-theorem) walks through those that you should read first.
 
-The definitions build on one another. A stream of bytes has *frames*. A frame *reads as* a request. A request of a client is an *event* of the *plain lobby*. An event comes to an *outcome*: a refusal, or things that *happen*. Each thing that happens says what it changes and who is *told* what.
+The definitions build on one another. A stream of bytes has *frames*. A frame *reads as* a request. What a client does is an *event* of the *plain lobby*: it comes, says a request, is given bytes, or goes. An event comes to an *outcome*: a refusal, or things that *happen*. Each thing that happens says what it changes and who is *told* what.
 
 A client's lines of one event are *put* as one batch, or the client is *cut*. A list of events is a *history*; a *schedule* gives one, and a *record* is what it put for each client. A client's bytes give its *view*, which is to equal the plain lobby's *observation* of its user.
 """

@@ -1,6 +1,6 @@
 #!/usr/bin/env python3
 """Compares include/lobby.h with what lobby_c exports: each function with its parameters and result, each struct with its fields in their
-order, each status, kind of field, reply and request with its number. `checks/header.py LIBRARY` also compares the names with the symbols of a built library."""
+order, each status and kind of field with its number; the numbers of replies and requests are written. `checks/header.py LIBRARY` also compares the names with the symbols of a built library."""
 import re
 import subprocess
 import sys
@@ -10,11 +10,6 @@ ROOT = Path(__file__).resolve().parent.parent
 HEADER = ROOT / "include/lobby.h"
 CRATES = ["lobby_c", "lobby_lines"]
 SOURCES = [path for crate in CRATES for path in sorted((ROOT / "crates" / crate / "src").glob("*.rt"))]
-# The tables by which replies and requests are numbered, from 1 on: each word in its order.
-NUMBERED = [
-    ("LOBBY_REPLY_", "crates/reply_kinds/src/command_word.rt", r'=> b"([A-Z]+)"'),
-    ("LOBBY_ASK_", "crates/command_grammar/src/command.rt", r' b"([A-Z]+)" \{'),
-]
 # What a type of the crates is called in C.
 NUMBERS = {"usize": "size_t", **{f"{sign}{bits}": f"{'u' * (sign == 'u')}int{bits}_t" for sign in "ui" for bits in (8, 16, 32, 64)}}
 STRUCTS = {"Slot": "lobby_view", "Place": "lobby_text", "Size": "lobby_size"}
@@ -60,9 +55,6 @@ def exported(text):
         structs[c_type(name)] = [("void *" if kind == "*mut u8" else c_type(kind), field) for field, kind in fields]
     for name, number in re.findall(r"pub const (\w+): u32 = (\d+);", text):
         numbers["LOBBY_" + name] = int(number)
-    for prefix, table, word in NUMBERED:
-        words = re.findall(word, (ROOT / table).read_text(encoding="utf-8"))
-        numbers.update((prefix + word, number) for number, word in enumerate(words, 1))
     return functions, structs, numbers
 
 
@@ -75,7 +67,7 @@ def declared(text):
         if name != again:
             sys.exit(f"header: struct {name} is called {again}")
     for inside in re.findall(r"enum \{(.*?)\};", text, re.S):
-        numbers.update((name, int(number)) for name, number in re.findall(r"(\w+) = (\d+)", inside))
+        numbers.update((name, int(number)) for name, number in re.findall(r"(LOBBY_(?!REPLY_|ASK_)\w+) = (\d+)", inside))
     for result, name, inside in re.findall(r"^(\w+) (lobby_\w+)\((.*?)\);", text, re.S | re.M):
         parameters = [re.fullmatch(r"(.*?)(\w+)", it.strip(), re.S).groups() for it in inside.split(",")]
         functions[name] = (result, [(spaced(kind), parameter) for kind, parameter in parameters])

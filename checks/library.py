@@ -122,7 +122,7 @@ def take_lines(program):
     """Each reply taken apart, with an id and without; each request printed so; what is no reply, and what is refused."""
     named = numbers()
     given, wanted = [], []
-    for line, fields in lines_wanted.REPLIES + lines_wanted.SHORTER:
+    for line, fields in lines_wanted.REPLIES + lines_wanted.MORE:
         for front, message_id in [("", None), ("#0 ", 0), ("#2147483647 ", 2147483647)]:
             given.append(f"{front}{line}\n")
             wanted.append(written(named["REPLY_" + line.split(" ")[0]], message_id, fields))
@@ -139,7 +139,7 @@ def take_lines(program):
         wanted.append(f"status {named[status]}\n")
     printed = spoken(program, "print", given, wanted)
     kinds = {name for name in named if name.startswith(("REPLY_", "ASK_"))}
-    tried = {"REPLY_" + line.split(" ")[0] for line, _ in lines_wanted.REPLIES} | {"ASK_" + word for word, *_ in lines_wanted.REQUESTS}
+    tried = {"REPLY_" + line.split(" ")[0] for line, _ in lines_wanted.REPLIES + lines_wanted.MORE} | {"ASK_" + word for word, *_ in lines_wanted.REQUESTS}
     if kinds != tried:
         raise Difference(f"not tried, or of no kind: {sorted(kinds ^ tried)}")
     print(f"lines: {read} read and {printed} printed or refused as docs/PROTOCOL.md has them")

@@ -1,15 +1,21 @@
 #!/usr/bin/env python3
-"""Follows each link of the repository's documents, and names those that point to nothing.
+"""Follows each link of the Markdown files that git tracks, and names those that point to nothing.
 
 A link with a line, as [`Framer::feed`](../crates/line_framer/src/lib.rt#L70), has to point to the line on which the item that
 it names is defined. `checks/links.py --mend` writes those line numbers anew."""
 import re
+import subprocess
 import sys
 from pathlib import Path
 
 ROOT = Path(__file__).resolve().parent.parent
-DOCUMENTS = ["README.md", "docs/*.md", "rows/*.md", "bench/*.md", "gateway/*.md", "python/*.md", "crates/*/*.md"]
 LINK = re.compile(r"\[([^\]\n]*)\]\(([^)\s]+)\)")
+
+
+def documents():
+    """The Markdown files that git tracks, but for those that were taken away since."""
+    names = subprocess.run(["git", "-C", ROOT, "ls-files", "-z", "*.md"], check=True, capture_output=True, text=True).stdout
+    return sorted({ROOT / it for it in names.split("\0") if it and (ROOT / it).is_file()})
 
 
 def defined_at(file, name):
@@ -31,9 +37,10 @@ def defined_at(file, name):
 
 
 def headings(file):
-    """The anchors of a document's headings."""
-    found = re.findall(r"(?m)^#+ (.+)$", file.read_text(encoding="utf-8"))
-    return {re.sub(r"[^\w\- ]", "", it.lower()).replace(" ", "-") for it in found}
+    """The anchors of a document: its headings, and those that it has by name."""
+    text = file.read_text(encoding="utf-8")
+    found = re.findall(r"(?m)^#+ (.+)$", text)
+    return {re.sub(r"[^\w\- ]", "", it.lower()).replace(" ", "-") for it in found} | {*re.findall(r'<a id="([^"]+)">', text)}
 
 
 def fault(document, text, target):
@@ -60,7 +67,7 @@ def fault(document, text, target):
 def main():
     is_mending = sys.argv[1:] == ["--mend"]
     passed = failed = 0
-    for document in sorted({it for pattern in DOCUMENTS for it in ROOT.glob(pattern)}):
+    for document in documents():
         whole = document.read_text(encoding="utf-8")
         mended = whole
         for text, target in LINK.findall(re.sub(r"(?ms)^    .*?$|^```.*?^```", "", whole)):

@@ -20,7 +20,7 @@ from lobby_server import ADDRESS, GREETING, PATIENCE, WORD, Account, Client, Dif
 
 ANNA, BERT, EVE = Account("Anna", 1), Account("Bert", 2), Account("Eve[x]_9", 3)
 HERE = Path(__file__).resolve().parent
-VERSION = re.search(r"(?m)^## ([0-9.]+)$", (HERE.parent / "CHANGELOG.md").read_text())[1]
+VERSION = re.search(r"(?m)^## \[([0-9.]+)\]", (HERE.parent / "CHANGELOG.md").read_text())[1]
 INVALID = "DENIED Invalid username or password\n"
 # The most lines that wait to be written, the bytes that a pipe is made to hold, and the seconds within which a server stops whose standard
 # error takes nothing, also on a busy machine.

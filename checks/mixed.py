@@ -22,6 +22,16 @@ NAMES = [f"User{number:02}" for number in range(100)]
 WORDS = ["Robo", "Rex", "Kai", "Max"]
 KEYS = ["game/mode", "game/units", "map/start", "x", "y"]
 UNITS = ["armcom", "corcom", "armflash", "armpw", "corak"]
+# Commands that have their arguments in common.
+# Written by tools/protocol.py of protocol/commands.toml: words.
+WORDS_OF = {
+    "name channel, {text..}": ("SAY", "SAYEX"),
+    "name user": ("JOINBATTLEACCEPT", "FORCESPECTATORMODE", "KICKFROMBATTLE", "RING"),
+    "{text..}": ("SAYBATTLE", "SAYBATTLEEX"),
+    "word unit, one or more": ("DISABLEUNITS", "ENABLEUNITS"),
+    "name user, 0..15 number": ("FORCETEAMNO", "FORCEALLYNO"),
+}
+# End of what is written: words.
 
 
 def login(account):
@@ -57,7 +67,7 @@ class Speaker:
         return f"{verb} {self.channel()}"
 
     def say_talk(self):
-        verb = self.choice.choice(("SAY", "SAYEX"))
+        verb = self.choice.choice(WORDS_OF["name channel, {text..}"])
         return f"{verb} {self.channel()} text {self.u32()}"
 
     def say_private(self):
@@ -85,7 +95,8 @@ class Speaker:
         return f"MYBATTLESTATUS {self.u32()} {self.colour()}"
 
     def say_in_battle(self):
-        return f"{self.choice.choice(('SAYBATTLE', 'SAYBATTLEEX'))} text {self.u32()}"
+        verb = self.choice.choice(WORDS_OF["{text..}"])
+        return f"{verb} text {self.u32()}"
 
     def say_info(self):
         return f"UPDATEBATTLEINFO {self.choice.randrange(9)} {int(self.choice.random() < 0.2)} 7 Map {self.u32()}"
@@ -112,15 +123,16 @@ class Speaker:
     def say_units(self):
         if self.choice.random() < 0.1:
             return "ENABLEALLUNITS"
-        verb = self.choice.choice(("DISABLEUNITS", "ENABLEUNITS"))
+        verb = self.choice.choice(WORDS_OF["word unit, one or more"])
         return " ".join([verb, *(self.choice.choice(UNITS) for _ in range(self.choice.randrange(1, 4)))])
 
     def say_force(self):
-        verb = self.choice.choice(("HANDICAP", "FORCETEAMNO", "FORCEALLYNO", "FORCETEAMCOLOR"))
+        verb = self.choice.choice(("HANDICAP", "FORCETEAMCOLOR", *WORDS_OF["name user, 0..15 number"]))
         return f"{verb} {self.name()} {self.choice.randrange(16)}"
 
     def say_member(self):
-        return f"{self.choice.choice(('FORCESPECTATORMODE', 'RING', 'RING', 'KICKFROMBATTLE'))} {self.name()}"
+        verb = self.choice.choice(("RING", *WORDS_OF["name user"]))
+        return f"{verb} {self.name()}"
 
 
 class Mixed:

@@ -39,7 +39,7 @@ expect 1 '' "$usage\n" "$(printf 'a%.0s' {1..8193})\n" "$main" hash
 expect 1 '' "$usage\n" '' "$main" --version more
 expect 2 '' 'cannot read input\n' . "$main" hash
 
-version=$(sed -n 's/^## \([0-9][0-9.]*\)$/\1/p' CHANGELOG.md | head -n 1)
+version=$(sed -n 's/^## \[\([0-9][0-9.]*\)\].*/\1/p' CHANGELOG.md | head -n 1)
 # tells NAME USAGE : it tells its version, and its usage first where it is asked for help.
 tells() {
     local program=crates/$1/out/$1

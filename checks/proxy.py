@@ -1,16 +1,20 @@
 #!/usr/bin/env python3
 """proxy.py [PROGRAM]: connects to the server as the gate built it, or another build of it, as a front would: with good lines, whole and
 byte by byte, with wrong ones, and with lines that do not go on. A client logs in behind each good line, hosts a battle, and another
-client is told its address. What is wanted stands here by hand."""
+client is told its address; and with a system that tells nothing of a new registration but what came by it. What is wanted stands here by
+hand."""
 import contextlib
 import os
 import socket
+import subprocess
 import sys
+import tempfile
 import time
 from pathlib import Path
 
 from lobby_server import ADDRESS, GREETING, Account, Client, Difference, Server, greeted
 
+HERE = Path(__file__).resolve().parent
 FRONT = f'proxies = ["192.0.2.1", "{ADDRESS}"]\n'
 # An address of this machine that is no front's.
 ELSEWHERE = "127.0.0.2"
@@ -145,6 +149,25 @@ def check_halves(server, workers):
     client.close()
 
 
+def check_quiet_registration(workers):
+    """Who comes is greeted though the system does not say that a new registration can be written to: behind a front, and without one."""
+    with tempfile.TemporaryDirectory(prefix="lobby-check-") as folder:
+        library = Path(folder) / "quiet.so"
+        subprocess.run([HERE / "build_library.sh", HERE / "quiet_registration.c", library], check=True)
+        with Server(workers, [ANNA, BERT], FRONT, LD_PRELOAD=str(library)) as server:
+            # Each worker gets some.
+            for _ in range(2 * workers):
+                behind_front = Front(server, GOOD[:-1])
+                for client in (Client(server, source=ELSEWHERE), behind_front):
+                    # The server waits by now.
+                    time.sleep(0.05)
+                    client.send(GOOD[-1:] if client is behind_front else "")
+                    client.expect(GREETING)
+                    client.send("#7 PING\n")
+                    client.expect("#7 PONG\n")
+                    client.close()
+
+
 def check_without(workers):
     """Without the setting a front's line is a client's line like any other."""
     with Server(workers, [ANNA, BERT]) as server:
@@ -155,8 +178,7 @@ def check_without(workers):
 
 
 def main():
-    here = Path(__file__).resolve().parent.parent
-    built = sys.argv[1] if len(sys.argv) > 1 else here / "crates/lobby_main/out/lobby_main"
+    built = sys.argv[1] if len(sys.argv) > 1 else HERE.parent / "crates/lobby_main/out/lobby_main"
     os.environ["LOBBY_MAIN"] = str(built)
     passed = failed = 0
     for workers in (1, 4):
@@ -168,12 +190,13 @@ def main():
                 except Difference as difference:
                     print(f"DIFFERS with {workers} workers: {difference}")
                     failed += 1
-        try:
-            check_without(workers)
-            passed += 1
-        except Difference as difference:
-            print(f"DIFFERS with {workers} workers: {difference}")
-            failed += 1
+        for check in (check_without, check_quiet_registration):
+            try:
+                check(workers)
+                passed += 1
+            except Difference as difference:
+                print(f"DIFFERS with {workers} workers: {difference}")
+                failed += 1
     print(f"proxy: {passed} passed, {failed} failed")
     sys.exit(1 if failed else 0)
 

@@ -4,7 +4,7 @@ shows has to be what view_show shows.
 
     checks/python_sessions.py [LOBBY_MAIN [VIEW_SHOW [SESSIONS [SEED]]]]
 
-Eight players at a time ask by chance for all 36 commands, as `rudderraisin.request` prints them, and choose by what their
+Eight players at a time ask by chance for all commands, as `rudderraisin.request` prints them, and choose by what their
 views show. So the server reads each request too, and is to find no fault in it. Who leaves makes room for another. A session
 is all that a player was sent; one that differs is left in out/session. The programs are the gate's if left out, SESSIONS is
 1,000 and SEED 1."""
@@ -24,12 +24,16 @@ NAMES = ["Anna", "Bert", "Cleo", "D[x]", "Emil_9", "Fritz", "_", "G" * 20, "Hann
 PLAYERS, LONGEST = 8, 60    # at a time; requests of a session at most
 FAULTS = ("Unknown command", "Missing argument", "Bad number", "Bad name", "Bad byte in line", "Bad key or value")
 # How often each command is asked for beside the others: by everybody, by members of a battle and by its founder.
-EVERYBODY = {"MYSTATUS": 4, "PING": 1, "CHANNELS": 1, "JOIN": 5, "LEAVE": 2, "SAY": 3, "SAYEX": 1, "SAYPRIVATE": 2,
-             "OPENBATTLE": 3, "JOINBATTLE": 9, "LEAVEBATTLE": 1}
+# Written by tools/protocol.py of protocol/commands.toml: weights.
+EVERYBODY = {"PING": 1, "MYSTATUS": 4, "CHANNELS": 1, "JOIN": 5, "LEAVE": 2, "SAY": 3, "SAYEX": 1, "SAYPRIVATE": 2,
+             "OPENBATTLE": 3, "JOINBATTLE": 9}
 MEMBER = {"MYBATTLESTATUS": 5, "SAYBATTLE": 2, "SAYBATTLEEX": 1, "ADDBOT": 4, "UPDATEBOT": 3, "REMOVEBOT": 1}
 FOUNDER = {"JOINBATTLEACCEPT": 1, "JOINBATTLEDENY": 1, "UPDATEBATTLEINFO": 3, "ADDSTARTRECT": 4, "REMOVESTARTRECT": 2,
-           "SETSCRIPTTAGS": 4, "REMOVESCRIPTTAGS": 2, "DISABLEUNITS": 4, "ENABLEUNITS": 2, "ENABLEALLUNITS": 1, "HANDICAP": 1,
-           "FORCETEAMNO": 1, "FORCEALLYNO": 1, "FORCETEAMCOLOR": 1, "FORCESPECTATORMODE": 1, "KICKFROMBATTLE": 1, "RING": 1}
+           "SETSCRIPTTAGS": 4, "REMOVESCRIPTTAGS": 2, "DISABLEUNITS": 4, "ENABLEUNITS": 2, "ENABLEALLUNITS": 1,
+           "HANDICAP": 1, "FORCETEAMNO": 1, "FORCEALLYNO": 1, "FORCETEAMCOLOR": 1, "FORCESPECTATORMODE": 1,
+           "KICKFROMBATTLE": 1, "RING": 1}
+# End of what is written: weights.
+EVERYBODY["LEAVEBATTLE"] = 1     # of one too who asks to join a battle
 WIDE, STATUS, SIDE = (-2147483648, -1, 0, 255, 4294967295), (0, 1, 3, 1024, 4195330, 4294967295), (0, 100, 200)
 TEXT, TITLE, SHORT = ("", "a  b", "\udce4=", " ", "Käse", "x" * 200), ("", "Comet Catcher", "\udcff", " x "), (0, 7, 65535)
 # What an argument may be, by its name.

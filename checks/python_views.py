@@ -6,7 +6,7 @@ what view_show shows.
     checks/python_views.py [LOBBY_PLAY [VIEW_SHOW [SESSIONS]]]
 
 They are the gate's and no sessions if left out; the package is as checks/python_view.py says. SESSIONS is a number of
-sessions, made by chance of lines of all kinds that change a view, that are folded as well."""
+sessions, made by chance of lines of all kinds, that are folded as well."""
 import os
 import random
 import re
@@ -20,44 +20,68 @@ from python_view import compare
 
 LENGTHS = (1, 3, 61, 1021, 4093)
 ACCEPTED = re.compile(rb"(?m)^(#[0-9]+ )?ACCEPTED ")
-# What comes in the places of words in a line.
-WORDS = {
-    "NAME": ["Anna", "Bert", "Cleo", "D[x]", "Emil_9"], "CHANNEL": ["main", "x", "[y]"],
-    "BATTLE": ["1", "2", "7", "2147483647"], "NUMBER": ["0", "1", "1024", "4294967295"],
-    "WIDE": ["-2147483648", "0", "255", "4294967295"], "SMALL": ["0", "7", "15"], "BOT": ["Robo", "Rex", "\xff\xfe"],
-    "KEY": ["a", "map/x", "="], "UNIT": ["armcom", "corak", "u"], "TEXT": ["", "a  b", "\xe4=", " "], "FLAG": ["0", "1"],
-    "PORT": ["0", "8452", "65535"], "SIDE": ["0", "100", "200"], "TITLE": ["", "Comet Catcher", "\xff", " x "],
+NAMES = ["Anna", "Bert", "Cleo", "D[x]", "Emil_9"]
+# What comes in the place of an argument; a word that is not here is 0.
+VALUES = {
+    "user": NAMES, "names": NAMES, "channel": ["main", "x", "[y]"], "country": ["DE"], "IP": ["10.0.0.1"],
+    "bot": ["Robo", "Rex", "\xff\xfe"], "keys": ["a", "map/x", "="], "units": ["armcom", "corak", "u"],
+    "text": ["", "a  b", "\xe4=", " "], "sentence": ["", "Comet Catcher", "\xff", " x "],
+    "u32": ["0", "1", "1024", "4294967295"], "wide": ["-2147483648", "0", "255", "4294967295"],
+    "1..2147483647": ["1", "2", "7", "2147483647"], "0..1": ["0", "1"], "0..2": ["0", "2"], "0..15": ["0", "7", "15"],
+    "0..200": ["0", "100", "200"], "0..65535": ["0", "8452", "65535"],
 }
-LINES = """ADDUSER NAME DE WIDE NUMBER
-CLIENTSTATUS NAME NUMBER
-REMOVEUSER NAME
-JOIN CHANNEL
-CLIENTS CHANNEL NAME NAME
-JOINED CHANNEL NAME
-LEFT CHANNEL NAME
-SAID CHANNEL NAME TEXT
-BATTLEOPENED BATTLE FLAG 2 NAME 10.0.0.1 PORT PORT FLAG WIDE WIDE Spring\t104\tTITLE\tTITLE\tBA
-BATTLECLOSED BATTLE
-OPENBATTLE BATTLE
-JOINBATTLE BATTLE WIDE
-UPDATEBATTLEINFO BATTLE PORT FLAG WIDE TITLE
-JOINEDBATTLE BATTLE NAME
-LEFTBATTLE BATTLE NAME
-CLIENTBATTLESTATUS NAME NUMBER WIDE
-ADDBOT BATTLE BOT NAME NUMBER WIDE TITLE
-UPDATEBOT BATTLE BOT NUMBER WIDE
-REMOVEBOT BATTLE BOT
-ADDSTARTRECT SMALL SIDE SIDE SIDE SIDE
-REMOVESTARTRECT SMALL
-SETSCRIPTTAGS KEY=TEXT
-REMOVESCRIPTTAGS KEY KEY
-DISABLEUNITS UNIT UNIT
-ENABLEUNITS UNIT
-ENABLEALLUNITS
-MOTD TEXT
-PONG
-PONG NAME
-NOTHING NAME""".split("\n")
+# Written by tools/protocol.py of protocol/replies.toml: lines.
+LINES = [
+    "TASSERVER {protocolVersion} {springVersion} {0..65535} {0..1}",
+    "DENIED {text}",
+    "MOTD {text}",
+    "SERVERMSG {text}",
+    "ADDUSER {user} {country} {wide} {u32}",
+    "REMOVEUSER {user}",
+    "CLIENTSTATUS {user} {u32}",
+    "LOGININFOEND",
+    "PONG",
+    "JOIN {channel}",
+    "CLIENTS {channel} {names} {names}",
+    "JOINED {channel} {user}",
+    "LEFT {channel} {user}",
+    "JOINFAILED {channel} {text}",
+    "SAID {channel} {user} {text}",
+    "SAIDEX {channel} {user} {text}",
+    "SAYPRIVATE {user} {text}",
+    "SAIDPRIVATE {user} {text}",
+    "CHANNEL {channel} {u32}",
+    "ENDOFCHANNELS",
+    "OPENBATTLE {1..2147483647}",
+    "OPENBATTLEFAILED {text}",
+    "BATTLEOPENED {1..2147483647} {0..1} {0..2} {user} {IP} {0..65535} {0..65535} {0..1} {wide} {wide} {sentence}\t{sentence}\t{sentence}\t{sentence}\t{sentence}",
+    "BATTLECLOSED {1..2147483647}",
+    "JOINBATTLE {1..2147483647} {wide}",
+    "JOINBATTLEFAILED {text}",
+    "JOINEDBATTLE {1..2147483647} {user}",
+    "LEFTBATTLE {1..2147483647} {user}",
+    "JOINBATTLEREQUEST {user} {IP}",
+    "UPDATEBATTLEINFO {1..2147483647} {0..65535} {0..1} {wide} {sentence}",
+    "REQUESTBATTLESTATUS",
+    "CLIENTBATTLESTATUS {user} {u32} {wide}",
+    "SAIDBATTLE {user} {text}",
+    "SAIDBATTLEEX {user} {text}",
+    "ADDBOT {1..2147483647} {bot} {user} {u32} {wide} {sentence}",
+    "UPDATEBOT {1..2147483647} {bot} {u32} {wide}",
+    "REMOVEBOT {1..2147483647} {bot}",
+    "ADDSTARTRECT {0..15} {0..200} {0..200} {0..200} {0..200}",
+    "REMOVESTARTRECT {0..15}",
+    "SETSCRIPTTAGS {keys}={text}",
+    "REMOVESCRIPTTAGS {keys} {keys}",
+    "DISABLEUNITS {units} {units}",
+    "ENABLEUNITS {units} {units}",
+    "ENABLEALLUNITS",
+    "FORCEQUITBATTLE",
+    "RING {user}",
+]
+# End of what is written: lines.
+# No replies.
+LINES += ["PONG {user}", "NOTHING {user}"]
 
 
 def scripts(room):
@@ -90,10 +114,7 @@ def session(choice):
     """A session of lines by chance, in a room whose founder is Anna."""
     lines = ["ACCEPTED Anna", "BATTLEOPENED 1 0 0 Anna 10.0.0.1 0 8 0 0 0 a\tb\tc\td\te", "OPENBATTLE 1"]
     for _ in range(choice.randrange(5, 120)):
-        line = choice.choice(LINES)
-        for word in WORDS:
-            while word in line:
-                line = line.replace(word, choice.choice(WORDS[word]), 1)
+        line = re.sub(r"\{(.*?)\}", lambda place: choice.choice(VALUES.get(place[1], ["0"])), choice.choice(LINES))
         lines.append(("#7 " if choice.random() < 0.1 else "") + line + ("\r" if choice.random() < 0.1 else ""))
     return ("\n".join(lines) + choice.choice(("\n", ""))).encode("latin-1")
 

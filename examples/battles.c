@@ -1,6 +1,7 @@
 /* Prints the battles of a lobby server and who is in them: connects, logs in, and feeds a view until the
  * login's lines are over.
  *
+ *     make library
  *     cc -I include examples/battles.c bin/liblobby.a -o battles
  *     ./battles 127.0.0.1 8200 Anna password
  *

@@ -4,7 +4,7 @@
  * what the client knows then: users, battles, channels and the room of its own battle. docs/PROTOCOL.md tells
  * the words and fields. One line of the server is read as its fields, and a client's line printed from its own.
  *
- * Each function is proved for every call that keeps these rules. Nothing tests them.
+ * Each function is proved for every call that keeps these rules. No call checks whether you keep them.
  *   - A view begins as LOBBY_VIEW_EMPTY. lobby_view_new fills an empty view. The other functions take a view
  *     that lobby_view_new filled and lobby_view_free has not emptied since.
  *   - A view is not copied, and `at` is neither read nor written. It stays on the thread that filled it.
@@ -223,6 +223,7 @@ typedef struct lobby_head {
 
 /* The kinds of replies. */
 enum {
+    /* Written by tools/protocol.py of protocol/replies.toml: kinds of replies. */
     LOBBY_REPLY_TASSERVER = 1,
     LOBBY_REPLY_ACCEPTED = 2,
     LOBBY_REPLY_DENIED = 3,
@@ -270,10 +271,12 @@ enum {
     LOBBY_REPLY_DISABLEUNITS = 45,
     LOBBY_REPLY_ENABLEUNITS = 46,
     LOBBY_REPLY_ENABLEALLUNITS = 47
+    /* End of what is written: kinds of replies. */
 };
 
 /* The kinds of requests. */
 enum {
+    /* Written by tools/protocol.py of protocol/commands.toml: kinds of requests. */
     LOBBY_ASK_PING = 1,
     LOBBY_ASK_EXIT = 2,
     LOBBY_ASK_LOGIN = 3,
@@ -310,6 +313,7 @@ enum {
     LOBBY_ASK_FORCESPECTATORMODE = 34,
     LOBBY_ASK_KICKFROMBATTLE = 35,
     LOBBY_ASK_RING = 36
+    /* End of what is written: kinds of requests. */
 };
 
 /* Reads a line of the server, without its LF, as the reply that prints so: `head`, and a table of its fields.

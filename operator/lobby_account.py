@@ -44,7 +44,7 @@ class Refused(Exception):
 
 
 class NotRestarted(Exception):
-    """The file was changed, but the server was not started anew, and why."""
+    """The file was changed, but the server was not restarted, and why."""
 
 
 def program(name):
@@ -375,16 +375,16 @@ def show_list(book):
 
 
 def restart(options):
-    """Starts the server anew, if its files are good."""
+    """Restarts the server, if its files are good."""
     try:
         is_good, told = checked(Path(options.settings).resolve(), Path(options.accounts).resolve(), **as_server())
     except OSError as error:
         raise NotRestarted(f"lobby_check cannot be run as {USER}: {error.strerror}") from None
     if not is_good:
-        raise NotRestarted("\n".join(["the server is not started anew, for lobby_check refuses its files:", *told]))
+        raise NotRestarted("\n".join(["the server is not restarted, for lobby_check refuses its files:", *told]))
     try:
         if subprocess.run(["systemctl", "restart", UNIT], check=False).returncode == 0:
-            print(f"{UNIT} is started anew")
+            print(f"{UNIT} is restarted")
             return
     except OSError as error:
         raise NotRestarted(f"systemctl cannot be run: {error.strerror}") from None
@@ -432,13 +432,13 @@ def parsed():
     changes.add_argument("--settings", metavar="FILE", default=f"{CONFIGURATION}/lobby.toml",
                          help="the file of settings (%(default)s)")
     changes.add_argument("--restart", action="store_true",
-                         help="start the server anew, which ends all battles and talk")
+                         help="restart the server, which ends all battles and talk")
     parser = argparse.ArgumentParser(prog="lobby_account",
                                      description="Adds and changes accounts of a lobby. A password is asked "
                                      "twice at a terminal, or is the first line of standard input.",
                                      epilog="Exit status: 0 done, 1 refused and nothing changed, 2 wrong arguments, 3 "
                                             "changed, but the "
-                                     "server was not started anew")
+                                     "server was not restarted")
     parser.add_argument("--version", action="version", version=f"lobby_account {VERSION}")
     commands = parser.add_subparsers(dest="command", required=True, metavar="COMMAND")
     for name, about in (("add", "adds an account"), ("password", "gives an account another password"),

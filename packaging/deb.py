@@ -13,9 +13,10 @@ import subprocess
 import sys
 import tempfile
 import textwrap
+from calendar import timegm
 from email.utils import formatdate
 from pathlib import Path
-from time import gmtime, strftime
+from time import gmtime, strftime, strptime
 
 ROOT = Path(__file__).resolve().parent.parent
 SCRIPTS = ROOT / "packaging/deb"
@@ -70,15 +71,15 @@ def output(*words):
 
 
 def changes():
-    """The sections of CHANGELOG.md, the newest first: what each is of, and its text."""
-    parts = re.split(r"(?m)^## (.+)\n", (ROOT / "CHANGELOG.md").read_text(encoding="utf-8"))
-    return [(name, text.strip()) for name, text in zip(parts[1::2], parts[2::2])]
+    """The sections of CHANGELOG.md, the newest first: what each is of, its date or nothing, and its text."""
+    parts = re.split(r"(?m)^## \[(.+?)\](?: - (\S+))?\n", (ROOT / "CHANGELOG.md").read_text(encoding="utf-8"))
+    return [(name, day, text.strip()) for name, day, text in zip(parts[1::3], parts[2::3], parts[3::3])]
 
 
 def version():
     """The version of this tree."""
-    number = next(name for name, _ in changes() if name != "Unreleased")
-    if not dict(changes()).get("Unreleased"):
+    number = next(name for name, _, _ in changes() if name != "Unreleased")
+    if not any(text for name, _, text in changes() if name == "Unreleased"):
         return number
     commit = output("git", "log", "-1", "--format=%ct %h").split()
     return f"{number}+git{strftime('%Y%m%d%H%M', gmtime(int(commit[0])))}.{commit[1]}" if commit else f"{number}+unreleased"
@@ -93,19 +94,25 @@ def mark(program):
 
 
 def debian_changes(name):
-    """CHANGELOG.md in the form of Debian, with the time of the commit that put each version in."""
+    """CHANGELOG.md in the form of Debian: each version at the begin of its day, what is behind it at the last commit."""
     entries = []
-    for number, text in changes():
+    for number, day, text in changes():
         if not text:
             continue
         shown = version() if number == "Unreleased" else number
-        words = ["log", "-1"] if number == "Unreleased" else ["log", "--reverse", f"-S## {number}"]
-        seconds = (output("git", *words, "--format=%ct", "--", "CHANGELOG.md").splitlines() or ["0"])[0]
-        text = re.sub(r"\[([^\]]*)\]\([^)]*\)", r"\1", text)
-        items = [it for it in re.split(r"(?m)^- |\n\n", text) if it.strip()]
-        lines = [textwrap.fill(" ".join(it.split()), 78, initial_indent="  * ", subsequent_indent="    ") for it in items]
+        seconds = timegm(strptime(day, "%Y-%m-%d")) if day else int(output("git", "log", "-1", "--format=%ct") or 0)
+        text = re.sub(r"\[([^\]]*)\]\([^)]*\)", r"\1", text).replace("**", "")
+        lines = []
+        for it in re.split(r"(?m)^(?=- )|\n\n", text):
+            words = " ".join(it.split())
+            if words.startswith("### "):
+                lines.append(f"  [ {words[4:]} ]")
+            elif words.endswith(":"):
+                lines.append(f"  {words}")
+            elif words:
+                lines.append(textwrap.fill(words.removeprefix("- "), 78, initial_indent="  * ", subsequent_indent="    "))
         entries.append(f"{name} ({shown}) unstable; urgency=medium\n\n" + "\n".join(lines)
-                       + f"\n\n -- {MAINTAINER}  {formatdate(int(seconds))}\n")
+                       + f"\n\n -- {MAINTAINER}  {formatdate(seconds)}\n")
     return "\n".join(entries)
 
 

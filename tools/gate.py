@@ -1,13 +1,16 @@
 #!/usr/bin/env python3
-"""The merge gate: `rt ci` and then the checks of the built programs, and at the end where the processor's time went.
+"""The merge gate: the checks that need no program, `rt ci`, and then the checks of the built programs, and at the end where the
+processor's time went. `tools/gate.py --first` runs only those of the first that take seconds.
 
 Says for each crate the seconds of a processor of its proof, its tests, its programs and its edits, for each edit its own, and
 which crates take more than they may. The same goes to out/gate.txt. Behind it stands again what passed and failed. The status is
 that of the first part that failed, or 1 where nothing else did and a proof takes far more than any may."""
 import collections
 import functools
+import hashlib
 import os
 import re
+import shutil
 import subprocess
 import sys
 import threading
@@ -15,10 +18,16 @@ import time
 from pathlib import Path
 
 ROOT = Path(__file__).resolve().parent.parent
-CHECKS = ["rows.sh", "programs.sh", "serve.sh", "proxy.py", "log.py", "stopping.py", "record.py", "record_tool.py",
-          "accounts.py", "scarce.sh", "short_memory.py", "files.sh", "setup_faults.py", "package.sh", "gateway.sh",
-          "links.py", "definitions.py", "widths.py", "header.py", "views.sh", "memory.sh", "memory_bounds.sh", "refused_memory.sh", "library.py",
-          "python.sh"]
+# These take seconds and need no program: they come before the proofs, and `tools/gate.py --first` runs them alone.
+FIRST = ["widths.py", "definitions.py", "heads.py", "header.py", "links.py", "protocol.py"]
+# This needs none either, and takes two minutes.
+GATEWAY = "gateway.sh"
+# This comes before the proofs where an earlier run left the program, and no file of the crates has changed since.
+ROWS, PLAYER = "rows.sh", ROOT / "crates/lobby_play/out/lobby_play"
+# These run the programs that the proofs left behind.
+CHECKS = [ROWS, "programs.sh", "serve.sh", "proxy.py", "log.py", "stopping.py", "record.py", "record_tool.py",
+          "accounts.py", "scarce.sh", "short_memory.py", "files.sh", "setup_faults.py", "package.sh", "gateway_served.sh",
+          "views.sh", "memory.sh", "memory_bounds.sh", "refused_memory.sh", "library.py", "python.sh"]
 # What the proof of a crate may take from nothing, in seconds of a processor: most crates, and any. The table names each that takes more.
 # One that takes half as much again as any may fails the gate.
 BUDGET, LIMIT = 300, 400
@@ -190,7 +199,57 @@ def shown(words, environment, told):
     return part.returncode or int(bad)
 
 
+def checked(name, told):
+    """The status of a check."""
+    return shown([ROOT / "checks" / name], {**os.environ, "AS_BUILT": "1"}, told)
+
+
+def sum_of(program):
+    """A sum of a program's bytes; None where there is none."""
+    return hashlib.sha256(program.read_bytes()).digest() if program.exists() else None
+
+
+def is_kept(program):
+    """Whether a program is there, and neither a file of the crates nor the toolchain is newer."""
+    toolchain = shutil.which("rt")
+    if not program.exists() or not toolchain:
+        return False
+    words = ["find", "crates.txt", "crates", os.path.realpath(toolchain), "-name", "out", "-prune", "-o"]
+    words += ["-type", "f", "-newer", program, "-print", "-quit"]
+    newer = subprocess.run(words, cwd=ROOT, stdout=subprocess.PIPE, text=True)
+    return newer.returncode == 0 and not newer.stdout
+
+
+def first(checks, told):
+    """The status of the first of these that failed. All are run, and those that failed are named behind them."""
+    statuses = {it: checked(it, told) for it in checks}
+    failed = [it for it, status in statuses.items() if status]
+    if failed:
+        print(f"gate: FAILED before any proof: {', '.join(failed)}", flush=True)
+    return statuses[failed[0]] if failed else 0
+
+
+def quick():
+    """The checks that take seconds, and need no program that is not there."""
+    return [*FIRST, ROWS] if is_kept(PLAYER) else FIRST
+
+
+def proofs_and_checks(lanes, told):
+    """The status of `rt ci` and of all checks. One that comes before the proofs does not end the run, which may tell more."""
+    checks = quick()
+    played = ROWS in checks and sum_of(PLAYER)
+    before = first([*checks, GATEWAY], told)
+    status = shown(["rt", "ci"], {**os.environ, "RT_JOBS": lanes}, told)
+    for it in CHECKS:
+        # Rows that were played are played again only if the proofs left another program.
+        if it != ROWS or not played or played != sum_of(PLAYER):
+            status = status or checked(it, told)
+    return before or status
+
+
 def main():
+    if sys.argv[1:] == ["--first"]:
+        return first(quick(), [])
     begun = time.monotonic()
     lanes = subprocess.run([ROOT / "tools/lanes.sh"], stdout=subprocess.PIPE, text=True, check=True).stdout.strip()
     watch = Watch()
@@ -198,9 +257,7 @@ def main():
     looking.start()
     told = []
     try:
-        status = shown(["rt", "ci"], {**os.environ, "RT_JOBS": lanes}, told)
-        for it in CHECKS:
-            status = status or shown([ROOT / "checks" / it], {**os.environ, "AS_BUILT": "1"}, told)
+        status = proofs_and_checks(lanes, told)
     finally:
         watch.over.set()
         looking.join()

@@ -30,8 +30,7 @@ func (h *House) Kick(name, text string) (kicked int) {
 		text = "You were put out by the operator"
 	}
 	for _, s := range h.all() {
-		if s.user() == name && name != "" {
-			s.end("kicked", "SERVERMSG "+text)
+		if s.user() == name && name != "" && s.end("kicked", "SERVERMSG "+text) {
 			kicked++
 		}
 	}
@@ -43,8 +42,7 @@ func (h *House) Kick(name, text string) (kicked int) {
 func (h *House) Ban(ban bans.Ban) (kicked int, err error) {
 	err = h.bans.Add(ban)
 	for _, s := range h.all() {
-		if text, isBanned := h.banned(s); isBanned {
-			s.end("banned", "SERVERMSG "+text)
+		if text, isBanned := h.banned(s); isBanned && s.end("banned", "SERVERMSG "+text) {
 			kicked++
 		}
 	}

@@ -51,15 +51,16 @@ type closeWriter interface {
 }
 
 // end gives the session up for this cause, and tells the client so, if it reads. The first cause is the one that
-// counts.
-func (s *session) end(cause, text string) {
+// counts, and end says whether it was this one.
+func (s *session) end(cause, text string) bool {
 	if !s.because(cause, text) {
-		return
+		return false
 	}
 	s.stop.Do(func() { close(s.done) })
 	s.server.Close()
 	s.raw.SetReadDeadline(time.Unix(1, 0))
 	s.raw.SetWriteDeadline(time.Now().Add(closing))
+	return true
 }
 
 // because notes why the session ends, if nothing else was before.

@@ -69,7 +69,7 @@ func (s *Settings) times(set *flag.FlagSet) {
 	}
 	span(&s.Handshake, 15*time.Second, time.Millisecond, time.Hour, "handshake",
 		"`TIME` for all up to the end of the TLS handshake")
-	span(&s.Login, time.Minute, time.Millisecond, day, "login", "`TIME` for the login behind that")
+	span(&s.Login, time.Minute, time.Millisecond, day, "login", "`TIME` from the connection to the login")
 	span(&s.Idle, 0, 0, day, "idle", "`TIME` that a client may send no line; 0 is any")
 	span(&s.Patience, time.Minute, time.Millisecond, time.Hour, "patience",
 		"`TIME` that a side may make no room for what waits")

@@ -131,7 +131,7 @@ class Client:
                     cpu: int = 0) -> list[Reply]:
         """Logs in, and gives the server's answer from ACCEPTED to LOGININFOEND, which the view has then.
 
-        With `b` who joins a battle of this user asks it first, by JOINBATTLEREQUEST. `Denied` with the server's reason;
+        With the flag `b`, a user who joins a battle of this one asks it first, by JOINBATTLEREQUEST. `Denied` with the server's reason;
         `CannotPrint`; `ConnectionLost`. The password travels as its MD5, which serves whoever reads it on the way.
         """
         try:

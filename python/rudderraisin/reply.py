@@ -33,6 +33,7 @@ class Reply:
         return it
 
 
+# Written by tools/protocol.py of protocol/replies.toml: classes.
 @dataclass(frozen=True)
 class TASSERVER(Reply):
     """The greeting."""
@@ -139,7 +140,7 @@ class LEFT(Reply):
 
 @dataclass(frozen=True)
 class JOINFAILED(Reply):
-    """You are not in the channel, and why."""
+    """You did not enter the channel, and why."""
 
     channel: Name
     reason: Text
@@ -244,7 +245,7 @@ class JOINBATTLE(Reply):
 
 @dataclass(frozen=True)
 class JOINBATTLEFAILED(Reply):
-    """You are not in the battle, and why."""
+    """You did not enter the battle, and why."""
 
     text: Text
 
@@ -406,6 +407,7 @@ class ENABLEUNITS(Reply):
 @dataclass(frozen=True)
 class ENABLEALLUNITS(Reply):
     """No unit is disabled."""
+# End of what is written: classes.
 
 
 KINDS: tuple[type[Reply], ...] = tuple(Reply.__subclasses__())  # the kind 1 comes first

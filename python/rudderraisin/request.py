@@ -28,6 +28,7 @@ class Request:
         return _native.print_request(self.kind, id, [*kinds.fields(self)])
 
 
+# Written by tools/protocol.py of protocol/commands.toml: classes.
 @dataclass(frozen=True)
 class PING(Request):
     """Asks for a sign of life."""
@@ -40,7 +41,7 @@ class EXIT(Request):
 
 @dataclass(frozen=True)
 class LOGIN(Request):
-    """Logs in. With the flag `b` who joins a battle of this user asks it first."""
+    """Logs in. With the flag `b`, whoever wants to join a battle of this user asks this user first."""
 
     userName: Word
     password: Word
@@ -309,6 +310,7 @@ class RING(Request):
     """The founder rings a member."""
 
     user: Name
+# End of what is written: classes.
 
 
 KINDS: tuple[type[Request], ...] = tuple(Request.__subclasses__())  # the kind 1 comes first

@@ -1,5 +1,5 @@
-"""docs/PROTOCOL.md for the tests: the tables of its sections 3 and 4, and a reader of a client's line that goes by its
-section 2. It uses nothing of the package."""
+"""docs/PROTOCOL.md for the tests: the commands of its section 3 and the table of its section 4, and a reader of a client's
+line that goes by its section 2. It uses nothing of the package."""
 from __future__ import annotations
 
 import re
@@ -7,16 +7,8 @@ from pathlib import Path
 from typing import Any, Dict, Iterator, List, NamedTuple, Optional, Tuple
 
 PAGE = (Path(__file__).resolve().parents[2] / "docs/PROTOCOL.md").read_text(encoding="utf-8")
-# Arguments that a table tells in other words, as they would stand there.
-WORDS = {
-    "[{reason..}], ignored": "none",
-    "{lobby name and version}, [{user id}, [{flags}]]": "{lobby} [{user}] [{flags}]",
-    "1 to 32 names": "name names, one or more",
-    "then 0..200 each: left, top, right, bottom": "0..200 left, 0..200 top, 0..200 right, 0..200 bottom",
-    "{key=value}, one or more": "pair pairs, one or more",
-    "word key, one or more": "word keys, one or more",
-    "word unit, one or more": "word units, one or more",
-}
+# Of LOGIN the page calls two arguments otherwise than the package.
+NAMES = {"{lobby name and version}": "{lobby}", "[{user id}]": "[{user}]"}
 RANGES = {"u32": (0, 4294967295), "wide": (-2147483648, 4294967295)}
 
 
@@ -31,32 +23,41 @@ def section(number: int) -> str:
 
 
 def arguments(text: str) -> List[Argument]:
-    """What stands in the column of arguments."""
-    for words, plain in WORDS.items():
+    """The arguments of a command or a reply, as the page notes them."""
+    for words, plain in NAMES.items():
         text = text.replace(words, plain)
-    parts = re.sub(r"(?<=[}\]]) (?=[{[])", ", ", text).replace(", one", " one").split(", ")
+    text = "" if text == "none" or text.endswith(", ignored") else text
+    text = text.replace(", one or more", " ..").replace(", 1 to 32", " ..")
+    parts = re.sub(r"(?<=[}\]]) (?=[{[])", ", ", text).split(", ")
     return [argument(it) for it in parts if it]
 
 
 def argument(text: str) -> Argument:
     is_optional, plain = text.startswith("["), text.strip("[]")
+    if plain == "{key=value} ..":
+        return Argument("pairs", "pairs")
     sentence = re.fullmatch(r"\{(\w+)(\.\.)?\}", plain)
     if sentence:
         return Argument(sentence[1], "text" if sentence[2] else "sentence", is_optional)
-    kind, _, name = plain.replace(" one or more", "").rpartition(" ")
-    if name == "battleID" and not kind:
-        kind = re.findall(r"(?m)^battleID is (\S+)\.$", PAGE)[0]
-    return Argument(name, kind + "s" if plain.endswith(" one or more") else kind, is_optional)
+    kind, name, *listed = plain.split(" ")
+    if listed:
+        return Argument(name.rstrip("s") + "s", kind + "s")
+    return Argument(name, kind, is_optional)
 
 
-def table(number: int) -> Dict[str, List[Argument]]:
-    """The commands of a section with their arguments."""
-    rows = re.findall(r"(?m)^\| ([A-Z]{2,}(?:, [A-Z]+)*) \| (.*?) \|", section(number))
-    return {it: [] if of == "none" or of.endswith("ignored") else arguments(of) for names, of in rows
-            for it in names.split(", ")}
+def commands() -> Dict[str, List[Argument]]:
+    """The commands of section 3: behind each heading its line in short, who may say it, and its arguments."""
+    rows = re.findall(r"(?m)^### ([A-Z]+)\n\n`[^`]+` \(\w+\)(?:: (.*))?$", section(3))
+    return {word: arguments(of) for word, of in rows}
 
 
-COMMANDS, REPLIES = table(3), table(4)
+def replies() -> Dict[str, List[Argument]]:
+    """The replies of section 4."""
+    rows = re.findall(r'(?m)^\| <a id="[^"]+"></a>([A-Z]+) \| (.*?) \|', section(4))
+    return {word: arguments(of) for word, of in rows}
+
+
+COMMANDS, REPLIES = commands(), replies()
 
 
 def bounds(kind: str) -> Optional[Tuple[int, int]]:

@@ -6,7 +6,7 @@ import re
 import unittest
 from pathlib import Path
 
-from rudderraisin import PrintFault, _native, password_word, reply, request
+from rudderraisin import PrintFault, _native, password_word
 
 HEADER = Path(__file__).resolve().parents[2] / "include/lobby.h"
 NUMBERS = {"int64_t": "q", "uint32_t": "I", "uint16_t": "H", "uint8_t": "B", "size_t": "N", "lobby_text": "NN"}
@@ -84,11 +84,6 @@ class Header(unittest.TestCase):
         found = {name: number for name, number in numbers("LOBBY_").items() if not name.startswith(("REPLY_", "ASK_"))}
         self.assertEqual(found, {**wanted, **held})
         self.assertEqual({*_native.FAULTS.values()}, {*PrintFault})
-
-    def test_kinds(self) -> None:
-        for prefix, classes in (("LOBBY_REPLY_", reply.KINDS), ("LOBBY_ASK_", request.KINDS)):
-            self.assertEqual(numbers(prefix), {it.__name__: number for number, it in enumerate(classes, 1)})
-            self.assertEqual([it.kind for it in classes], [*range(1, len(classes) + 1)])
 
 
 if __name__ == "__main__":

@@ -23,11 +23,9 @@ class Names(unittest.TestCase):
         self.assertEqual(login[5:], [Argument("user", "sentence", True), Argument("flags", "sentence", True)])
         wanted["LOGIN"] = [*login[:5], Argument("b", "0..1")]     # of the flags b alone counts
         self.assertEqual(declared(request.KINDS), wanted)
-        self.assertEqual(len(wanted), 36)
 
     def test_replies(self) -> None:
         self.assertEqual(declared(reply.KINDS), protocol.REPLIES)
-        self.assertEqual(len(protocol.REPLIES), 47)
 
     def test_types(self) -> None:
         """A number of two values that says whether something is so is a bool; a status word has its fields."""

@@ -1,5 +1,20 @@
-//! The accounts of a lobby: the fields of one and their rules, all by their names, the file that lists
-//! them, and the check of a login.
+//! The accounts of a lobby by their names, read from a file, and the check of a login.
+//!
+//! [`AccountBook::read`] makes an [`AccountBook`] of a file, and its `check` gives the account of a name and a
+//! password word, or says why a login is refused.
+//!
+//! The test has added an account of the number `u32::MAX`, and the book has refused a second one of that name.
+//!
+//! For example (`leaf_tests/src/accounts.rt`):
+//!
+//! ```rust
+//! match book.check(b"[AI]_1", WORD) {
+//!     Ok(first) => same(rt, first.id(), u32::MAX),
+//!     Err(_) => fail(rt, "the first is there"),
+//! }
+//! ```
+//!
+//! An [`Account`] keeps the rules of its fields, and [`password_word`] makes the word of a password.
 #![tactic(auto)]
 
 mod account;

@@ -1,12 +1,29 @@
-//! A queue of bytes in one buffer, appended behind and consumed in front.
+//! A queue of bytes in one buffer, written at the back and read at the front.
+//!
+//! A [`ByteQueue`] makes room by `reserve`, takes bytes at its back by `append`, lends all that wait by `as_slice`,
+//! and lets go of the first ones by `consume`.
+//!
+//! The test shows it from outside: an outbox keeps what it is put in such a queue. A reader takes bytes into a
+//! buffer of eight, or copies some from a place on, and the buffer is then as shown.
+//!
+//! For example (`leaf_tests/src/outboxes.rt`):
+//!
+//! ```rust
+//! Step::Puts(b"PONG\nENDOF\n"),
+//! Step::CopiesFrom(9, 2, b"F\n......"),
+//! Step::Takes(8, b"PONG\nEND"),
+//! Step::Puts(b"#1 PONG\n"),
+//! Step::Unread(11),
+//! Step::Takes(8, b"OF\n#1 PO"),
+//! ```
 //!
 //! Consuming moves no byte: what was consumed stays in the buffer, in front of what waits, until room is wanted or
-//! nothing waits. Bytes are moved to the front only where at least as many were consumed before them. So each byte that
-//! moves is paid for by one that was consumed, which pays once only: all the moves together cost no more than all the
-//! bytes that were ever appended.
+//! nothing waits. Bytes are moved to the front only where at least as many were consumed before them. So each byte
+//! that moves is paid for by one that was consumed, which pays once only: all the moves together cost no more than
+//! all the bytes that were ever appended.
 //!
-//! `BytesMut` of the crate `bytes` is not used: it writes zeros into new room, and promises no room in a buffer that it
-//! is given, as an outbox is by its pool.
+//! `BytesMut` of the crate `bytes` is not used: it writes zeros into new room, and promises no room in a buffer
+//! that it is given, as an outbox is by its pool.
 #![tactic(auto)]
 
 ghost use Rattle.std.specs.Prelude.{◌≡◌, ◌+◌, ◌^◌, ◌<◌, ◌≤◌, ◌↔◌, [], ◌++◌, length, take, drop, vec_capacity, IsTrue};

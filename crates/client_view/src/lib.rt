@@ -1,33 +1,32 @@
-//! What a client of the lobby knows, folded from the bytes that it was sent: who is logged in, the
-//! battles and who is in them, the client's channels, and the room of the battle that it is in. For
-//! authors of clients, and of bots that host battles.
+//! What a client of the lobby knows, folded from the bytes that it was sent.
 //!
-//! A client makes a [`View`] when it connects and feeds it each piece that it reads, whatever the
-//! piece cuts in two. Behind a login, and for as long as the server does not cut the client, the view
-//! has exactly what the server's lobby shows this user once all lines of an event are folded
-//! (`view_law`), and an author reads it there in place of following 26 kinds of line by hand.
+//! A client makes a [`View`] when it connects, feeds it each piece of bytes that it reads, and looks there for users,
+//! battles, channels and its own room.
+//!
+//! For example (`leaf_tests/src/views.rt`):
 //!
 //! ```rust
-//! use client_view::{View, ViewError};
-//! use std::alloc::Global;
-//!
-//! /// How many bots the client's room has after a piece, where it is in a battle.
-//! fn bots_after(view: &mut View, piece: &[u8]) -> Result<Option<usize>, ViewError> {
-//!     let _folded = view.feed(piece)?;
-//!     Ok(view.room().map(|room| room.bots().len()))
-//! }
-//!
-//! fn connected(alloc: Global) -> View {
-//!     View::new(alloc)
-//! }
+//! Step::Feeds(SENT, Ok(24)),
+//! Step::Counts(2, 1, 1),
+//! Step::Channel(b"main", 2, b"Anna"),
+//! Step::Feeds(b"LEFT main Anna\n", Ok(1)),
+//! Step::Counts(2, 0, 1),
 //! ```
 //!
-//! A line that no reply prints is skipped, so a later server may send kinds of line that this crate
-//! does not know. Where memory is refused, `feed` changes nothing, and the piece may be fed again. A view
-//! takes no byte from the network and sends none.
+//! `Feeds` has the bytes, and how many lines `feed` says that it folded. `SENT` is what Anna was sent from her login
+//! on, and `Counts` says how many users, channels and battles the view has then. Anna leaves `main`, so the view has no
+//! channel.
 //!
-//! A view keeps nothing of who asks to join a battle. The crate's README says how a bot that hosts
-//! battles is asked and answers, and what its view shows of disabled units.
+//! The view is for authors of clients, and of bots that host battles. A piece may cut a line anywhere. Behind a login,
+//! and for as long as the server does not cut the client, the view has exactly what the server's lobby shows this user
+//! once all lines of an event are folded (`view_law`). So an author need not follow 26 kinds of line by hand.
+//!
+//! A line that no reply prints is skipped, so a later server may send kinds of line that this crate does not know.
+//! Where memory is refused, `feed` changes nothing, and the piece may be fed again. A view takes no byte from the
+//! network and sends none.
+//!
+//! A view keeps nothing of who asks to join a battle. The crate's README says how a bot that hosts battles is asked and
+//! answers, and what its view shows of disabled units.
 #![tactic(auto)]
 
 mod error;

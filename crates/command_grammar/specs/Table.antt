@@ -158,6 +158,7 @@ entry word kinds maker = record { word = word; kinds = kinds; maker = maker }
 -- The table of commands, its last part first, and each part ends with the one behind it: the code has a function for
 -- each.
 
+-- Written by tools/protocol.py of protocol/commands.toml: entries.
 -- what a founder does to players
 unfoldable pub host_entries : List Entry
 host_entries =
@@ -214,6 +215,8 @@ entries =
     ∷ entry (codes "SAYPRIVATE") name_and_text command.SayPrivate
     ∷ battle_entries
 
+-- End of what is written: entries.
+
 -- the arguments of a command
 pub record Arguments : Type 0 where
   pub kinds : List Kind
@@ -223,6 +226,7 @@ pub record Arguments : Type 0 where
 abbrev pub given : (kinds : List Kind) → Values kinds → Arguments
 given kinds values = record { kinds = kinds; values = values }
 
+-- Written by tools/protocol.py of protocol/commands.toml: arguments.
 abbrev pub arguments_of : Command → Arguments
 arguments_of command.Blank = given [] tt
 arguments_of (command.Unread fault) = given [] tt
@@ -289,3 +293,5 @@ arguments_of (command.ForceTeamColor user team_color) = given color_row (user, (
 arguments_of (command.ForceSpectatorMode user) = given one_name (user, tt)
 arguments_of (command.KickFromBattle user) = given one_name (user, tt)
 arguments_of (command.Ring user) = given one_name (user, tt)
+
+-- End of what is written: arguments.

@@ -27,6 +27,7 @@ pub enum Command {
     Blank,
     /// The line is not a command.
     Unread(ReadFault),
+    // Written by tools/protocol.py of protocol/commands.toml: variants.
     /// `LOGIN userName password cpu localIP {lobby name and version} [{user id}] [{flags}]`: `password` is
     /// the base64 text of the password's MD5, `cpu` from -2147483648 to 4294967295. `authorises` says
     /// that `b` is among the flags: the user decides who joins its battles.
@@ -207,6 +208,7 @@ pub enum Command {
     Ring {
         user: NameBuf,
     },
+    // End of what is written: variants.
 }
 
 /// The table of commands: a row for each, its command word and its fields with their kinds in the order in which
@@ -220,6 +222,7 @@ macro_rules! with_commands {
     ($write:ident($($given:ident),*)) => {
         $write! {
             ($($given),*)
+            // Written by tools/protocol.py of protocol/commands.toml: rows.
             users {
                 Ping b"PING" {}
                 Exit b"EXIT" {}
@@ -283,6 +286,7 @@ macro_rules! with_commands {
                 KickFromBattle b"KICKFROMBATTLE" { user: Name }
                 Ring b"RING" { user: Name }
             }
+            // End of what is written: rows.
         }
     };
 }

@@ -1,14 +1,29 @@
-//! Requests: what a line of a client asks the lobby for.
+//! A client's line read as a request: perhaps a message id, and a command with its arguments.
 //!
-//! A line is spaces, perhaps a message id (`#7 `), a command word and its arguments. `specs/Reads.antt`
-//! says what a line reads as, and `specs/Reading.antt` the same as a function, which the readers are
-//! proved by.
+//! [`read_request`] makes a [`Request`] of any line, and where the line is no command, its [`Command`] says why.
 //!
-//! A command has a row of arguments: `specs/Table.antt` has the table of commands, and `specs/Arguments.antt`
-//! says how a line has an argument of each kind. `specs/Forms.antt` says by both what the arguments of a
-//! command make, and `specs/Readers.antt` the same as a function. The readers of arguments are given all
-//! that stands behind a command word; the word is looked for in the table of commands, behind spaces and perhaps
-//! a message id.
+//! The test has each line beside what it must be read as.
+//!
+//! For example (`leaf_tests/src/requests.rt`):
+//!
+//! ```rust
+//! (
+//!     b"SAYPRIVATE Bert  hi",
+//!     Expected::SayPrivate {
+//!         user: b"Bert",
+//!         text: b" hi",
+//!     },
+//! ),
+//! (b"MYSTATUS -0", Expected::MyStatus { status: 0 }),
+//! ```
+//!
+//! A line is spaces, perhaps a message id (`#7 `), a command word and its arguments. `specs/Reads.antt` says what a
+//! line reads as, and `specs/Reading.antt` the same as a function, by which the readers are proved.
+//!
+//! A command has a row of arguments: `specs/Table.antt` has the table of commands, and `specs/Arguments.antt` says
+//! how a line has an argument of each kind. `specs/Forms.antt` says by both what the arguments of a command make,
+//! and `specs/Readers.antt` the same as a function. The command word is looked for in the table, and the readers of
+//! arguments are given all that stands behind it.
 #![tactic(auto)]
 
 mod arguments;

@@ -1,6 +1,23 @@
-//! Tests of the crates below the lobby, of the file of settings and of a client's view, by their public calls: values
-//! of the protocol, vectors of standards, and each call that may be refused memory with memory at hand. They stand in a
-//! crate of their own, since a crate with tests is proved twice.
+//! Tests of the crates below the lobby, of the file of settings and of a client's view, by their public calls.
+//!
+//! A test hands what a call told and what it is to tell to [`verdict::same`], which fails the test where the two
+//! differ.
+//!
+//! For example (`leaf_tests/src/keys.rt`):
+//!
+//! ```rust
+//! /// Anna's room under 1 is joined by Bert under 2, and Cleo is let in under 3.
+//! fn key_members(rt: &impl Abort, room: &mut Room<u8>) {
+//!     same(rt, join(room, b"Bert", 2), true);
+//!     same(rt, let_in(room, b"Cleo", 3), true);
+//!     same(rt, are(room.members(), &[1, 2, 3]), true);
+//!     same(rt, drops(room, b"Bert"), true);
+//!     same(rt, are(room.members(), &[1, 3]), true);
+//! }
+//! ```
+//!
+//! The tests try values of the protocol, vectors of standards, and with memory at hand each call that may be refused
+//! memory. They stand in a crate of their own, since a crate with tests is proved twice.
 #![tactic(auto)]
 
 #[cfg(test)]

@@ -8,6 +8,7 @@ use reply_grammar::{
 };
 use std::alloc::{AllocError, Global};
 
+// Written by tools/protocol.py of protocol/replies.toml: good lines.
 static LINES: [&[u8]; 59] = [
     b"TASSERVER 0.38 * 8201 0",
     b"#4 ACCEPTED Bert",
@@ -69,6 +70,7 @@ static LINES: [&[u8]; 59] = [
     b"FORCEQUITBATTLE",
     b"RING Anna",
 ];
+// End of what is written: good lines.
 
 static REFUSED: [&[u8]; 60] = [
     b"",

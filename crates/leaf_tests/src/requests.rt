@@ -8,6 +8,7 @@ use request_printer::{PrintError, print_request};
 use std::alloc::Global;
 
 /// A line of each command.
+// Written by tools/protocol.py of protocol/commands.toml: good lines.
 static GOOD_LINES: [&[u8]; 36] = [
     b"PING",
     b"CHANNELS",
@@ -46,6 +47,7 @@ static GOOD_LINES: [&[u8]; 36] = [
     b"KICKFROMBATTLE Bert",
     b"RING Bert",
 ];
+// End of what is written: good lines.
 
 #[test]
 fn each_command_is_read(rt: HostRuntime) {
@@ -59,6 +61,7 @@ fn each_command_is_read(rt: HostRuntime) {
     }
 }
 
+// Written by tools/protocol.py of protocol/commands.toml: bad lines.
 static FAULTS: [(&[u8], ReadFault); 21] = [
     (b"ping", ReadFault::UnknownCommand),
     (b"#9", ReadFault::UnknownCommand),
@@ -82,6 +85,7 @@ static FAULTS: [(&[u8], ReadFault); 21] = [
     (b"DISABLEUNITS arm\tcom", ReadFault::BadByte),
     (b"SETSCRIPTTAGS =1", ReadFault::BadPair),
 ];
+// End of what is written: bad lines.
 
 #[test]
 fn faults_are_told(rt: HostRuntime) {
@@ -302,6 +306,7 @@ fn has_tags(command: &Command, wanted: &[(&[u8], &[u8])]) -> bool {
 fn word_of(command: &Command) -> &'static [u8] {
     match command {
         Command::Blank | Command::Unread(_) => b"",
+        // Written by tools/protocol.py of protocol/commands.toml: words.
         Command::Ping => b"PING",
         Command::Channels => b"CHANNELS",
         Command::Exit => b"EXIT",
@@ -318,6 +323,7 @@ fn word_of(command: &Command) -> &'static [u8] {
         Command::SayBattle { .. } => b"SAYBATTLE",
         Command::SayBattleEx { .. } => b"SAYBATTLEEX",
         Command::Ring { .. } => b"RING",
+        // End of what is written: words.
         _ => word_in_a_battle(command),
     }
 }
@@ -325,6 +331,7 @@ fn word_of(command: &Command) -> &'static [u8] {
 /// The word of a command that changes a battle; none of another.
 fn word_in_a_battle(command: &Command) -> &'static [u8] {
     match command {
+        // Written by tools/protocol.py of protocol/commands.toml: other words.
         Command::JoinBattleAccept { .. } => b"JOINBATTLEACCEPT",
         Command::JoinBattleDeny { .. } => b"JOINBATTLEDENY",
         Command::UpdateBattleInfo { .. } => b"UPDATEBATTLEINFO",
@@ -345,6 +352,7 @@ fn word_in_a_battle(command: &Command) -> &'static [u8] {
         Command::ForceTeamColor { .. } => b"FORCETEAMCOLOR",
         Command::ForceSpectatorMode { .. } => b"FORCESPECTATORMODE",
         Command::KickFromBattle { .. } => b"KICKFROMBATTLE",
+        // End of what is written: other words.
         _ => b"",
     }
 }
@@ -400,6 +408,7 @@ fn arguments_are_read(rt: HostRuntime) {
 }
 
 /// A line of each command, with and without what may be left out, and the line that its request prints as.
+// Written by tools/protocol.py of protocol/commands.toml: printed lines.
 static PRINTED_LINES: [(&[u8], &[u8]); 56] = [
     (b"", b""),
     (b"  #7  ", b"#7 "),
@@ -491,6 +500,7 @@ static PRINTED_LINES: [(&[u8], &[u8]); 56] = [
     (b"SAYBATTLE \xC3\xA4\xFF\x00", b"SAYBATTLE \xC3\xA4\xFF\x00"),
     (b"SAYPRIVATE Bert ", b"SAYPRIVATE Bert "),
 ];
+// End of what is written: printed lines.
 
 #[test]
 fn each_request_is_printed_as_it_reads(rt: HostRuntime) {

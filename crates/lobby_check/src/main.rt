@@ -1,4 +1,19 @@
-//! Looks at the files that a server is to be started by, and says what they come to or what is wrong in them.
+//! The program that checks a server's settings and accounts before a start.
+//!
+//! It calls [`start_check::check`], which prints what the files come to, or all that is wrong in them.
+//!
+//! For example (`docs/OPERATING.md`):
+//!
+//! ```console
+//! $ lobby_check examples/lobby.toml examples/accounts.toml
+//! settings: address 127.0.0.1:8200, workers 1
+//! memory: some 2863 bytes a client, and some 4194304 more for one that does not read
+//! memory: some 41971 MB if 10000 clients read nothing, and more where buffers have room to spare
+//! accounts: 3 can log in
+//! login: up to 49694 bytes, if each other user has opened a battle with the longest texts
+//! address: 127.0.0.1:8200 is free
+//! user: tried as rudderraisin, number 998
+//! ```
 #![tactic(auto)]
 
 use std::process::ExitCode;

@@ -1,4 +1,10 @@
+pub mod Attended
+pub mod Claims
 pub mod Gathered
+pub mod Had
 pub mod Progress
+pub mod Rung
+pub mod Shown
 pub mod Table
 pub mod Timeouts
+pub mod Told

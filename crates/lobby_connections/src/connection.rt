@@ -15,10 +15,6 @@ pub struct Connection {
     pub link: WireLink,
     /// Whether its client was sent all that waited for it: once its worker ends, it is then shut.
     pub is_told: bool,
-    // the last round in which it got a turn
-    pub(crate) round: u64,
-    // whether it waits among those who are left over
-    pub(crate) is_left: bool,
     // a poll told that the other side ended
     is_ending: bool,
     // the other side ended or the link failed, and memory was refused since
@@ -26,14 +22,12 @@ pub struct Connection {
 }
 
 impl Connection {
-    /// A connection that had its last turn in this round.
-    pub(crate) fn new(conn: Conn, link: WireLink, round: u64) -> Connection {
+    /// A connection that had no turn yet.
+    pub(crate) fn new(conn: Conn, link: WireLink) -> Connection {
         Connection {
             conn,
             link,
             is_told: false,
-            round,
-            is_left: false,
             is_ending: false,
             is_over: false,
         }
@@ -64,6 +58,7 @@ impl Connection {
     pub fn refuse(&mut self) -> bool
         ensures over { result ≡ self.new.is_over }
         ensures stays { self.old.is_over ≡ true → self.new.is_over ≡ true }
+        ensures conn { self.new.conn ≡ self.old.conn }
     {
         self.is_over |= self.is_ending || has_failed(&self.link);
         self.is_over

@@ -1,19 +1,28 @@
 //! The connections of a worker, and who gets the next turn.
 
-ghost use Rattle.std.specs.Prelude.{◌≡◌, ◌≢◌, ◌⊎◌, ◌↔◌, ◌+◌, ◌-◌, ◌/◌, ◌^◌, ◌<◌, ◌≤◌, ◌||◌, [], ◌++◌, true, false};
-ghost use Rattle.std.specs.Prelude.{length, max, min, None, IfSome, IsTrue, OnOk, OnSome};
+ghost use Rattle.std.specs.Prelude.{◌≡◌, ◌≢◌, ◌⊎◌, ◌↔◌, ◌+◌, ◌-◌, ◌/◌, ◌^◌, ◌<◌, ◌≤◌, ◌||◌, [], ◌∷◌, ◌++◌, true, false};
+ghost use Rattle.std.specs.Prelude.{ℕ, List, length, max, min, None, IfSome, IsTrue, OnOk, OnSome};
 ghost use Rattle.std.specs.Option.{option_to_list};
 ghost use Rattle.lobby_post.specs.Mask.{has_home};
-ghost use Rattle.lobby_connections.specs.Table.{IsIdle, Leaves, Stays, due_count, next_key, with_left};
+ghost use Rattle.lobby_machine.specs.Shown.{dirty_at};
+ghost use Rattle.lobby_connections.specs.Attended.{AllBut, InLine, Owes, WakesNobody};
+ghost use Rattle.lobby_connections.specs.Attended.{IsAttended, IsAttendedSoFar, KeepsAttended};
+ghost use Rattle.lobby_connections.specs.Claims.{Changes, called_up, come, gone, had_turn, left_over, noted, owing};
+ghost use Rattle.lobby_connections.specs.Table.{IsIdle, Leaves, LinesUp, Stays, due_count, key_in, next_key};
+ghost use Rattle.lobby_connections.specs.Table.{stayed, touched, with_left};
 ghost use Rattle.lobby_connections.specs.Timeouts.{StaysAwake, shorter};
+ghost use Rattle.lobby_connections.specs.Told.{key_of};
 
 use crate::connection::Connection;
 use crate::lingering::Lingering;
+use crate::names;
 use crate::poll_timeout::PollTimeout;
+use crate::seat::{self, Seat};
+use crate::serving::{self, Served};
 use crate::wire_link::WireLink;
-use lobby_holds::{Buffers, Conn, TurnState};
-use lobby_lock::{Held, MOST_EVENTS};
+use lobby_lock::{Desk, Held, Pass};
 use lobby_machine::Wakes;
+use lobby_turns::{Buffers, Conn, Gate};
 use mio::event::Event;
 use mio::net::TcpStream;
 use mio::{Registry, Token};
@@ -22,9 +31,7 @@ use std::alloc::{AllocError, Global};
 use std::collections::HashMap;
 use std::marker::Model;
 use std::mem;
-
-/// The most names that are taken in a hold, so that no other worker waits long for the lobby.
-pub const NAMES_IN_HOLD: usize = 64;
+use std::sync::Wait;
 
 /// The most bytes that a turn tells, and one line's more, where its worker has the lobby for itself: two thousand
 /// short lines.
@@ -34,18 +41,24 @@ const TURN: u64 = 128_000;
 const ROUND: u64 = 512_000;
 
 /// The connections of a worker, each under the key that its events bear. A worker goes round again
-/// and again, and gives each connection one turn in a round at most.
+/// and again, and gives those a turn who are to get one: a poll told of it, it was named, it is new, or it stopped at a
+/// limit or for want of memory; and since then it had none.
 pub struct Connections {
     alloc: Global,
-    slab: Slab<Connection>,
+    slab: Slab<Seat>,
     // the key of each client's connection, by the client's number
     keys: HashMap<u64, usize>,
-    round: u64,
-    // the clients that were named as changed, for the turns to come; there is room for all
-    named: Vec<u64>,
+    // the clients that the lobby named as changed in a hold, for whom is still to be looked; there is room for those of
+    // a hold
+    called: Vec<u64>,
+    // the keys of those who were named, for the turns to come; there is room for all
+    named: Vec<usize>,
     // whether the lobby may name more, of which no other worker tells
     is_pending: bool,
-    // who stopped at a limit or for want of memory in the round before, and so gets a turn though nothing new comes
+    // the other workers whose clients were touched, and who are still to be woken
+    to_wake: Wakes,
+    // who stopped at a limit or for want of memory in the round before, or is new since then, and so gets a turn though
+    // nothing new comes
     due: Vec<usize>,
     // how many of them had it
     served: usize,
@@ -76,9 +89,10 @@ impl Drop for Connections {
             alloc: _,
             slab,
             keys,
-            round: _,
+            called,
             named,
             is_pending: _,
+            to_wake: _,
             due,
             served: _,
             is_each_due: _,
@@ -95,6 +109,7 @@ impl Drop for Connections {
         } = self;
         drop(slab);
         drop(keys);
+        drop(called);
         drop(named);
         drop(due);
         drop(left);
@@ -104,34 +119,16 @@ impl Drop for Connections {
 }
 
 impl Model for Connections {
-    ghost use Rattle.std.specs.Prelude.{◌-◌, min};
-    ghost use Rattle.std.specs.HashMap.{spare};
-    ghost use Rattle.slab.specs.Slab.{slab_len};
     ghost use Rattle.lobby_connections.specs.Table.{Table};
-    ghost use Rattle.lobby_connections.specs.Timeouts.{StaysAwake};
 
     ghost Value = { Table };
 
-    ghost view = { λ c. record {
-      due = c.due.items;
-      is_each_due = c.is_each_due;
-      served = c.served;
-      left =
-          c.left.items;
-      is_each_left = c.is_each_left;
-      told = c.told;
-      turn_most = c.turn_most;
-      round_most = c.round_most;
-      named = c.named.items;
-      is_pending = c.is_pending;
-      timeout = c.timeout;
-      count = slab_len c.slab;
-      key_bound =
-          c.slab.capacity;
-      room = min (c.slab.capacity - slab_len c.slab) (spare c.keys);
-    } };
+    ghost use Rattle.lobby_connections.specs.Shown.{shown};
+    ghost use Rattle.lobby_connections.specs.Attended.{IsTable};
 
-    ghost invariant = { λ c. StaysAwake c.left.items c.is_each_left c.timeout };
+    ghost view = { shown };
+
+    ghost invariant = { λ c. IsTable (shown c) };
 }
 
 impl Connections {
@@ -147,15 +144,17 @@ impl Connections {
         ensures left { (result.left ≡ []) × (result.is_each_left ≡ false) }
         ensures named { (result.named ≡ []) × (result.is_pending ≡ false) }
         ensures none { result.count ≡ 0 }
+        ensures attended { IsAttended result [] }
         ensures timeout { result.timeout ≡ PollTimeout.Endless }
     {
         Connections {
             alloc,
             slab: Slab::new(alloc),
             keys: HashMap::new(alloc),
-            round: 1,
+            called: Vec::new(alloc),
             named: Vec::new(alloc),
             is_pending: false,
+            to_wake: Wakes::none(),
             due: Vec::new(alloc),
             served: 0,
             is_each_due: false,
@@ -201,9 +200,29 @@ impl Connections {
             → self.new ≡ record (with_left self.old) { timeout = PollTimeout.Endless; told = 0 } }
         ensures goes_on { self.old.served < due_count self.old
             → self.new ≡ record self.old { told = 0 } }
+        ensures attended { KeepsAttended self.old self.new }
     {
-        self.round = self.round.wrapping_add(1);
+        self.forget_told();
+        self.go_over();
+    }
+
+    /// Nothing was told in this round yet.
+    fn forget_told(&mut self)
+        ensures { self.new ≡ record self.old { told = 0 } }
+    {
         self.told = 0;
+        self.is_short = self.is_refused;
+        self.is_refused = false;
+    }
+
+    /// Where each of those who were due had its turn, those are due who were left over, and the worker may wait as long
+    /// as it likes.
+    fn go_over(&mut self)
+        ensures over { due_count self.old ≤ self.old.served
+            → self.new ≡ record (with_left self.old) { timeout = PollTimeout.Endless } }
+        ensures goes_on { self.old.served < due_count self.old → self.new ≡ self.old }
+        ensures attended { KeepsAttended self.old self.new }
+    {
         if self.served >= self.due() {
             self.timeout = PollTimeout::Endless;
             self.due.clear();
@@ -212,8 +231,6 @@ impl Connections {
             self.is_each_left = false;
             self.served = 0;
         }
-        self.is_short = self.is_refused;
-        self.is_refused = false;
     }
 
     /// Memory was refused to a turn of this round. Whether that is news: it was refused to none before, in this round
@@ -269,17 +286,18 @@ impl Connections {
     pub fn next_due(&mut self) -> Option<usize>
         ensures some { IfSome result (λ key.
             (key ≡ next_key self.old) × (self.old.served < due_count self.old)
-            × (self.new ≡ record self.old { served = self.old.served + 1 })) }
+            × (self.new ≡ record self.old { served = self.old.served + 1; claims = self.new.claims })) }
         ensures none { result ≡ None → (due_count self.old ≤ self.old.served) × (self.new ≡ self.old) }
+        ensures claims { IfSome result (λ key. Changes self.old.claims self.new.claims key (noted called_up)) }
+        ensures attended { (rest : List ℕ) → IsAttended self.old rest
+            → IsAttended self.new (option_to_list result ++ rest) }
     {
         if self.served >= self.due() {
             return None;
         }
         let key = self.next_key();
         self.served += 1;
-        if let Some(connection) = self.slab.get_mut(key) {
-            connection.is_left = false;
-        }
+        seat::call_up(&mut self.slab, key);
         Some(key)
     }
 
@@ -327,22 +345,45 @@ impl Connections {
         ensures now { result ≡ false → self.new ≡ self.old }
         ensures then { (self.new ≡ self.old)
             ⊎ ((self.old.round_most ≤ self.old.told) × Leaves self.old self.new key PollTimeout.Zero) }
+        ensures attended { result ≡ true → (rest : List ℕ) → IsAttended self.old (key ∷ rest)
+            → IsAttended self.new rest }
     {
-        let is_enough = self.told >= self.round_most;
-        match self.slab.get_mut(key) {
-            Some(connection) if connection.is_left => return true,
-            Some(connection) if is_enough && connection.is_dear() => {}
-            _ => return false,
+        if self.waits(key) {
+            return true;
+        }
+        if self.told < self.round_most || !self.is_dear(key) {
+            return false;
         }
         self.leave(key, PollTimeout::Zero);
         true
+    }
+
+    /// Whether the connection under a key waits for its turn among those who are left over.
+    fn waits(&self, key: usize) -> bool
+        ensures { result ≡ true → InLine self.now key }
+    {
+        match seat::claim_at(&self.slab, key) {
+            Some(claim) => claim.is_left,
+            None => false,
+        }
+    }
+
+    /// Whether the next turn of the connection under a key likely costs much.
+    fn is_dear(&self, key: usize) -> bool {
+        match self.slab.get(key) {
+            Some(seat) => seat.connection.is_dear(),
+            None => false,
+        }
     }
 
     /// Room for one connection more: for itself, its key and its name. Fails only where memory is refused.
     fn reserve(&mut self) -> Result<(), AllocError>
         ensures room { OnOk result (0 < self.new.room) }
         ensures rest { Stays self.old self.new }
+        ensures claims { self.new.claims ≡ self.old.claims }
+        ensures bound { self.old.key_bound ≤ self.new.key_bound }
     {
+        self.called.reserve(names::IN_HOLD)?;
         self.slab.reserve(1)?;
         self.keys.reserve(1)?;
         let more = self.slab.capacity().saturating_sub(self.named.len());
@@ -354,6 +395,7 @@ impl Connections {
     pub fn prepare(&mut self, registry: &Registry, stream: TcpStream) -> Option<WireLink>
         ensures room { OnSome result (0 < self.new.room) }
         ensures rest { Stays self.old self.new }
+        ensures attended { KeepsAttended self.old self.new }
     {
         if self.reserve().is_err() {
             return None;
@@ -369,19 +411,37 @@ impl Connections {
     }
 
     /// Takes in a connection that was prepared, behind which none was, and whose client was opened from this address.
-    pub fn put(&mut self, client: u64, ip: [u8; 4], link: WireLink)
+    /// It is to get its first turn, whatever a poll tells, and the worker does not wait before. It is under this key.
+    pub fn put(&mut self, client: u64, ip: [u8; 4], link: WireLink) -> usize
+        requires { 0 < self.old.room }
+        ensures rest { LinesUp (stayed self.old self.new) self.new result PollTimeout.Zero }
+        ensures count { self.new.count ≡ self.old.count + 1 }
+        ensures owes { Owes self.new result }
+        ensures comes { Changes self.old.claims self.new.claims result come }
+        ensures attended { KeepsAttended self.old self.new }
+    {
+        let key = self.insert(client, ip, link);
+        self.line_up(key, PollTimeout::Zero);
+        key
+    }
+
+    /// A connection takes its seat.
+    fn insert(&mut self, client: u64, ip: [u8; 4], link: WireLink) -> usize
         requires { 0 < self.old.room }
         ensures rest { Stays self.old self.new }
         ensures count { self.new.count ≡ self.old.count + 1 }
+        ensures bound { self.new.key_bound ≡ self.old.key_bound }
+        ensures claims { Changes self.old.claims self.new.claims result come }
     {
         let mut conn = Conn::new(self.alloc, client);
         conn.came_from(ip);
-        let connection = Connection::new(conn, link, self.round.wrapping_sub(1));
-        let key = self.slab.insert_reserved(connection);
+        let seat = Seat::new(Connection::new(conn, link));
+        let key = self.slab.insert_reserved(seat);
         match self.keys.insert(client, key) {
             Ok(_) => {}
             Err(_) => unreachable!(),
         }
+        key
     }
 
     /// Lets go what came for a connection that lingers. Whether a poll's token is of one.
@@ -391,95 +451,139 @@ impl Connections {
         self.lingering.turn(registry, token)
     }
 
-    /// Notes what a poll told of the connection under the event's token. Nothing happens where there is none.
+    /// Notes what a poll told of the connection under the event's token, which is to get a turn. Nothing happens where
+    /// there is none.
     pub fn note(&mut self, event: &Event)
-        ensures { self.new ≡ self.old }
+        ensures rest { self.new ≡ record self.old { claims = self.new.claims } }
+        ensures claims { Changes self.old.claims self.new.claims (key_of event.now) (noted owing) }
     {
-        if let Some(connection) = self.slab.get_mut(event.token().0) {
-            connection.note(event);
-        }
+        seat::note(&mut self.slab, event.token().0, event);
     }
 
     /// The connection under a key.
     pub fn at(&self, key: usize) -> Option<&Connection> {
-        self.slab.get(key)
-    }
-
-    /// The connection under a key, whose turn goes on.
-    pub fn in_turn(&mut self, key: usize) -> Option<&mut Connection> {
-        self.slab.get_mut(key)
-    }
-
-    /// The connection under a key, whose turn of this round begins, with buffers that are lent to it. None where there
-    /// is none, or it had its turn.
-    pub fn begin_turn(&mut self, key: usize) -> Option<&mut Connection> {
-        if self.begins(key) {
-            self.slab.get_mut(key)
-        } else {
-            None
+        match self.slab.get(key) {
+            Some(seat) => Some(&seat.connection),
+            None => None,
         }
     }
 
-    /// The turn of this round of the connection under a key begins, and buffers are lent to it. False where there is
-    /// none, or it had its turn.
-    fn begins(&mut self, key: usize) -> bool
-        ensures { self.new ≡ self.old }
+    /// Whether the connection under a key is to get a turn.
+    pub fn begins_turn(&self, key: usize) -> bool
+        ensures yes { result ≡ true → Owes self.now key }
+        ensures no { result ≡ false → Owes self.now key → ⊥ }
     {
-        let round = self.round;
-        let Some(connection) = self.slab.get_mut(key) else {
-            return false;
-        };
-        if connection.round == round {
-            return false;
+        match seat::claim_at(&self.slab, key) {
+            Some(claim) => claim.owes,
+            None => false,
         }
-        connection.round = round;
-        connection.conn.lend(&mut self.buffers);
-        true
+    }
+
+    /// The connection under a key has a turn, or its turn goes on; it may tell so much. None where there is none.
+    pub fn serve<R: Wait, G: Gate>(
+        &mut self,
+        rt: &R,
+        key: usize,
+        desk: &Desk,
+        pass: Pass,
+        gate: &G,
+        allowance: u64,
+    ) -> (Pass, Option<Served>)
+        requires { pass.desk ≡ desk.now }
+        ensures table { self.new ≡ self.old }
+        ensures key { IfSome result.1 (λ had. had.key ≡ key) }
+        ensures none { result.1 ≡ None → Owes self.old key → ⊥ }
+        ensures desk { result.0.desk ≡ pass.desk }
+        ensures number { result.0.worker.number ≡ pass.worker.number }
+    {
+        serving::serve(
+            rt,
+            &mut self.slab,
+            &mut self.buffers,
+            key,
+            desk,
+            pass,
+            gate,
+            allowance,
+        )
+    }
+
+    /// Sends to the client of the connection under a key what waits for it, if there is one, and does nothing else.
+    pub fn send_at<R: Wait, G: Gate>(
+        &mut self,
+        rt: &R,
+        key: usize,
+        desk: &Desk,
+        pass: Pass,
+        gate: &G,
+    ) -> Pass
+        requires { pass.desk ≡ desk.now }
+        ensures table { self.new ≡ self.old }
+        ensures desk { result.desk ≡ pass.desk }
+        ensures number { result.worker.number ≡ pass.worker.number }
+    {
+        serving::send_at(rt, &mut self.slab, &mut self.buffers, key, desk, pass, gate)
     }
 
     /// A turn is over: takes back the buffers that were lent to the connection under a key.
-    pub fn settle(&mut self, key: usize)
+    pub(crate) fn settle(&mut self, key: usize)
         ensures { self.new ≡ self.old }
     {
-        if let Some(connection) = self.slab.get_mut(key) {
-            connection.conn.settle(&mut self.buffers);
-        }
+        serving::settle(&mut self.slab, &mut self.buffers, key);
     }
 
-    /// Sees to it that a connection goes on as its turn ended: where it stopped at a limit or for want of memory, it is
-    /// left for the next round. One whose client was shut lingers.
-    pub fn end_turn(&mut self, registry: &Registry, key: usize, state: TurnState)
-        ensures again { state ≡ TurnState.Again → Leaves self.old self.new key PollTimeout.Zero }
-        ensures memory { state ≡ TurnState.Memory → Leaves self.old self.new key PollTimeout.Short }
-        ensures idle { state ≡ TurnState.Idle → self.new ≡ self.old }
-        ensures closed { state ≡ TurnState.Closed → Stays self.old self.new }
+    /// The connection under a key is to get a turn.
+    pub(crate) fn claim(&mut self, key: usize)
+        ensures rest { self.new ≡ record self.old { claims = self.new.claims } }
+        ensures claims { Changes self.old.claims self.new.claims key (noted owing) }
     {
-        self.settle(key);
-        match state {
-            TurnState::Idle => {}
-            TurnState::Again => self.leave(key, PollTimeout::Zero),
-            TurnState::Memory => self.leave(key, PollTimeout::Short),
-            TurnState::Closed => self.close(registry, key),
-        }
+        seat::owe(&mut self.slab, key);
+    }
+
+    /// The connection under a key had its turn.
+    pub(crate) fn quit(&mut self, key: usize)
+        ensures rest { self.new ≡ record self.old { claims = self.new.claims } }
+        ensures claims { Changes self.old.claims self.new.claims key (noted had_turn) }
+    {
+        seat::quit(&mut self.slab, key);
     }
 
     /// A connection is left for the next round, before which the worker waits no longer than this.
-    fn leave(&mut self, key: usize, timeout: PollTimeout)
+    pub(crate) fn leave(&mut self, key: usize, timeout: PollTimeout)
         requires { timeout ≢ PollTimeout.Endless }
-        ensures { Leaves self.old self.new key timeout }
+        ensures leaves { Leaves self.old self.new key timeout }
+        ensures claims { Changes self.old.claims self.new.claims key (noted left_over) }
+        ensures attended { (rest : List ℕ) → AllBut self.old (key ∷ rest) → AllBut self.new rest }
     {
-        self.hurry(timeout);
-        if let Some(connection) = self.slab.get_mut(key) {
-            connection.is_left = true;
-        }
+        self.line_up(key, timeout);
+        self.mark_left(key);
+    }
+
+    /// A key joins those that are left for the next round, before which the worker waits no longer than this.
+    pub(crate) fn line_up(&mut self, key: usize, timeout: PollTimeout)
+        requires { timeout ≢ PollTimeout.Endless }
+        ensures { LinesUp self.old self.new key timeout }
+    {
+        self.timeout = self.timeout.or(timeout);
         if self.left.push(key).is_err() {
             self.is_each_left = true;
         }
     }
 
+    /// It is noted that a connection waits for the next round, and is to get a turn.
+    fn mark_left(&mut self, key: usize)
+        requires { InLine self.old key }
+        ensures rest { self.new ≡ record self.old { claims = self.new.claims } }
+        ensures claims { Changes self.old.claims self.new.claims key (noted left_over) }
+    {
+        seat::leave(&mut self.slab, key);
+    }
+
     /// A connection whose client was shut goes on as one that lingers.
-    fn close(&mut self, registry: &Registry, key: usize)
-        ensures { Stays self.old self.new }
+    pub(crate) fn close(&mut self, registry: &Registry, key: usize)
+        ensures rest { Stays self.old self.new }
+        ensures bound { self.new.key_bound ≡ self.old.key_bound }
+        ensures claims { Changes self.old.claims self.new.claims key gone }
     {
         if let Some(link) = self.remove(key) {
             self.lingering.begin(registry, link);
@@ -488,9 +592,12 @@ impl Connections {
 
     /// A connection goes. Its link stays.
     fn remove(&mut self, key: usize) -> Option<WireLink>
-        ensures { Stays self.old self.new }
+        ensures rest { Stays self.old self.new }
+        ensures bound { self.new.key_bound ≡ self.old.key_bound }
+        ensures claims { Changes self.old.claims self.new.claims key gone }
     {
-        let connection = self.slab.try_remove(key)?;
+        let seat = self.slab.try_remove(key)?;
+        let Seat { connection, .. } = seat;
         let Connection { conn, link, .. } = connection;
         self.keys.remove(&conn.client());
         drop(conn);
@@ -513,13 +620,28 @@ impl Connections {
         self.lingering.discard_input()
     }
 
-    /// Notes whether a turn touched the worker's clients, which are those of this home: the lobby may name more of
-    /// them.
-    pub fn note_wakes(&mut self, home: u8, wakes: Wakes)
+    /// Notes whose clients a turn touched: the worker's own, which are those of this home, so that the lobby may name
+    /// more of them, and those of others, who are to be woken.
+    pub(crate) fn touch(&mut self, home: u8, wakes: Wakes)
         requires { home ≤ 63 }
-        ensures { self.new ≡ record self.old { is_pending = self.old.is_pending || has_home wakes home } }
+        ensures rest { self.new ≡ touched self.old self.new }
+        ensures pending { self.new.is_pending ≡ (self.old.is_pending || has_home wakes home) }
+        ensures wakes { (worker : ℕ) → has_home self.new.to_wake worker
+            ≡ (has_home self.old.to_wake worker || has_home wakes worker) }
     {
         self.is_pending |= wakes.has(home);
+        self.to_wake = self.to_wake.union(wakes);
+    }
+
+    /// The workers who are to be woken, and from now on are so no more.
+    pub(crate) fn take_wakes(&mut self) -> Wakes
+        ensures wakes { result ≡ self.old.to_wake }
+        ensures rest { self.new ≡ record self.old { to_wake = self.new.to_wake } }
+        ensures nobody { WakesNobody self.new }
+    {
+        let wakes = self.to_wake;
+        self.to_wake = Wakes::none();
+        wakes
     }
 
     /// Whether the lobby may name more clients, of which no other worker tells.
@@ -529,68 +651,76 @@ impl Connections {
         self.is_pending
     }
 
-    /// Says whether the lobby may name more clients.
-    pub fn set_pending(&mut self, is_pending: bool)
-        ensures { self.new ≡ record self.old { is_pending = is_pending } }
+    /// The lobby may name more clients.
+    pub fn expect_names(&mut self)
+        ensures { self.new ≡ record self.old { is_pending = true } }
     {
-        self.is_pending = is_pending;
+        self.is_pending = true;
+    }
+
+    /// Whether there is no connection. Then nobody is named, and the lobby need not be asked.
+    pub fn expects_nobody(&mut self) -> bool
+        ensures yes { result ≡ true
+            → (self.new.count ≡ 0) × (self.new ≡ record self.old { is_pending = false }) }
+        ensures no { result ≡ false → self.new ≡ self.old }
+    {
+        if self.slab.len() > 0 {
+            return false;
+        }
+        self.is_pending = false;
+        true
     }
 
     /// Takes names of changed clients in a hold that goes on, while there is room, and keeps those of clients
-    /// for which a turn has something to do. Whether these are all.
-    pub fn take_names(&mut self, held: &mut Held, home: u8) -> bool
+    /// for which a turn has something to do. It is pending where these may not be all.
+    pub fn take_names(&mut self, held: &mut Held, home: u8)
         requires { home ≤ 63 }
         ensures pass { held.new.pass ≡ held.old.pass }
-        ensures table { self.new ≡ record self.old { named = self.new.named } }
+        ensures table { self.new ≡ record self.old { called = self.new.called; is_pending = self.new.is_pending } }
+        ensures asked { self.new.is_pending ≡ false → dirty_at held.new.lobby home ≡ [] }
+        ensures attended { (rest : List ℕ) → IsAttended self.old rest → IsAttendedSoFar self.new rest }
     {
-        names_in(held, home, &mut self.named)
+        self.is_pending = !names::take_all(held, home, &mut self.called);
     }
 
-    /// How many clients are named.
+    /// A client that the lobby named, and for whom is to be looked, and is so no more.
+    pub(crate) fn next_called(&mut self) -> Option<u64>
+        ensures called { self.old.called ≡ self.new.called ++ option_to_list result }
+        ensures rest { self.new ≡ record self.old { called = self.new.called } }
+        ensures nobody { result ≡ None → self.new.called ≡ [] }
+    {
+        self.called.pop()
+    }
+
+    /// A key joins those that are named. False where memory is refused.
+    pub(crate) fn push_name(&mut self, key: usize) -> bool
+        ensures yes { result ≡ true → self.new ≡ record self.old { named = self.old.named ++ key ∷ [] } }
+        ensures no { result ≡ false → self.new ≡ self.old }
+    {
+        self.named.push(key).is_ok()
+    }
+
+    /// How many are named.
     pub fn named(&self) -> usize
         ensures { result ≡ length self.now.named }
     {
         self.named.len()
     }
 
-    /// A client that is named, and is so no more. None where nobody is.
-    pub fn next_named(&mut self) -> Option<u64>
+    /// The key of one who is named, and is so no more. None where nobody is.
+    pub fn next_named(&mut self) -> Option<usize>
         ensures named { self.old.named ≡ self.new.named ++ option_to_list result }
         ensures rest { self.new ≡ record self.old { named = self.new.named } }
+        ensures attended { (rest : List ℕ) → IsAttended self.old rest
+            → IsAttended self.new (option_to_list result ++ rest) }
     {
         self.named.pop()
     }
 
     /// The key of a client's connection. None where there is none: it has gone.
-    pub fn key_of(&self, client: u64) -> Option<usize> {
+    pub fn key_of(&self, client: u64) -> Option<usize>
+        ensures { result ≡ key_in self.now.keys client }
+    {
         self.keys.get(&client).copied()
     }
-}
-
-/// Takes names of changed clients in a hold that goes on, while there is room, and keeps those of clients
-/// for which a turn has something to do. Whether these are all.
-fn names_in(held: &mut Held, home: u8, named: &mut Vec<u64>) -> bool
-    requires { home ≤ 63 }
-    ensures { held.new.pass ≡ held.old.pass }
-{
-    for _ in 0..NAMES_IN_HOLD {
-        if named.len() == named.capacity() || held.count() >= MOST_EVENTS {
-            return false;
-        }
-        match held.next_dirty(home) {
-            Some(client) if has_news(held, client) => named.push_reserved(client),
-            Some(_) => {}
-            None => return true,
-        }
-    }
-    false
-}
-
-/// Whether bytes wait for a client, or nothing will ever come of it. Who was told everything in the turn
-/// that touched it has no news.
-fn has_news(held: &mut Held, client: u64) -> bool
-    requires { length held.old.events < MOST_EVENTS }
-    ensures { held.new.pass ≡ held.old.pass }
-{
-    held.unread(client) > 0 || held.drain(client, &mut []).finished
 }

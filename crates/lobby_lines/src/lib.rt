@@ -1,10 +1,24 @@
-//! Lines and tables for other languages. A table is rows of numbers and of places in one text, written into memory that
-//! the caller lends. What a view shows is such tables, and a line is one of its fields, by which C and Python take it
-//! apart and make it: a line of the server is read, and the line of a request is printed. It knows nothing of what C
-//! keeps.
+//! Lobby lines and views as tables for C and Python, in memory that the caller lends.
 //!
-//! One table in code says of each reply what kinds its arguments have (`reply_table`), another of each request its word
-//! and those kinds (`request_table`). All else goes by kinds of argument.
+//! [`read_reply`] takes a line of the server apart into its fields, [`print_request`] makes a client's line from its
+//! fields, and calls such as [`user_table`] give what a view shows.
+//!
+//! For example (`checks/lines_wanted.py`):
+//!
+//! ```text
+//! ("JOINEDBATTLE 1 Bert", [1, "Bert", None]),
+//! ("JOINEDBATTLE 1 Bert pw9", [1, "Bert", "pw9"]),
+//! ("LEFTBATTLE 1 Bert", [1, "Bert"]),
+//! ("UPDATEBATTLEINFO 1 0 1 123 Comet Catcher", [1, 0, 1, 123, "Comet Catcher"]),
+//! ```
+//!
+//! Each line of the server stands here with the fields that it is read as. `None` is an argument that the line leaves
+//! out.
+//!
+//! A table is rows of numbers and of places in one text. The crate knows nothing of what C keeps.
+//!
+//! One table in code says which kinds of argument each reply has (`reply_table`). Another gives each request its word
+//! and its kinds of argument (`request_table`). All else goes by kinds of argument.
 #![tactic(auto)]
 
 mod answering;

@@ -51,6 +51,7 @@ pub(crate) fn kinds_of(command: CommandWord) -> &'static [ReplyKind]
     ensures { map kind_of result.now ≡ kinds_of command }
 {
     match command {
+        // Written by tools/protocol.py of protocol/replies.toml: kinds.
         CommandWord::TasServer => &[Word, Word, Port, Small(1)],
         CommandWord::AddUser => &[Name, Word, Wide, Status],
         CommandWord::ClientStatus | CommandWord::Channel => &[Name, Status],
@@ -82,5 +83,6 @@ pub(crate) fn kinds_of(command: CommandWord) -> &'static [ReplyKind]
         CommandWord::RemoveScriptTags | CommandWord::DisableUnits | CommandWord::EnableUnits => &[Words],
         CommandWord::LoginInfoEnd | CommandWord::Pong | CommandWord::EndOfChannels | CommandWord::RequestBattleStatus
         | CommandWord::ForceQuitBattle | CommandWord::EnableAllUnits => &[],
+        // End of what is written: kinds.
     }
 }

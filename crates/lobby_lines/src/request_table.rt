@@ -50,8 +50,10 @@ macro_rules! rows_of_commands {
     };
 }
 
+// Written by tools/protocol.py of protocol/commands.toml: count.
 /// The requests in the order of their numbers, from 1 on.
 static REQUESTS: [RequestRow; 36] = with_commands!(rows_of_commands());
+// End of what is written: count.
 
 /// The request of this number.
 pub(crate) fn row_of(kind: u32) -> Option<&'static RequestRow>

@@ -1,4 +1,19 @@
-//! The server program of the lobby: `serve` runs the server, `hash` makes password words.
+//! The program that operators run: the lobby server over TCP, and a maker of password words.
+//!
+//! It answers `--help` and `--version`, and calls [`lobby_cli::run`] for its commands `serve` and `hash`.
+//!
+//! For example (`README.md`):
+//!
+//! ```console
+//! $ nc 127.0.0.1 8200
+//! TASSERVER 0.38 * 8201 0
+//! > LOGIN Anna X03MO1qnZdYdgyfeuILPmQ== 0 * nc
+//! ACCEPTED Anna
+//! ADDUSER Anna DE 0 1
+//! LOGININFOEND
+//! ```
+//!
+//! There `serve` runs by `examples/lobby.toml` and `examples/accounts.toml`. One types what follows `$` or `>`.
 #![tactic(auto)]
 
 use std::fs::{File, OpenOptions};

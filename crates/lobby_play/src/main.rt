@@ -1,5 +1,20 @@
-//! Plays a script of connects, bytes and disconnects against a lobby, and shows what each client
-//! was sent. The script comes on standard input, and what it shows goes to standard output.
+//! The program that plays a script or a server's record against a lobby, and shows what each client was sent.
+//!
+//! It calls [`lobby_script::play`] for a script, and makes a [`record_play::Replay`] for the record in a folder.
+//!
+//! For example (`rows/session/greeting_and_ping.row`):
+//!
+//! ```text
+//! open 1 10.0.0.1
+//! send 1 PING\n
+//! all 1
+//! show 1
+//! 1> TASSERVER 0.38 * 8201 0
+//! 1> PONG
+//! ```
+//!
+//! The first four lines are a script, which the program reads on standard input, and the last two what it shows on
+//! standard output. With `--record FOLDER` it reads questions about the record there instead.
 #![tactic(auto)]
 
 mod record;

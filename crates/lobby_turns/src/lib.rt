@@ -1,9 +1,24 @@
-//! A connection's turn: what comes over a client's link is fed to its session, whole lines become events of the lobby,
-//! and what the lobby has for the client is written.
+//! A turn of a client's connection: it reads what came, says the lines to the lobby, and writes what waits.
 //!
-//! A worker serves a connection in turns ([`serve`], and [`serve_within`] a bound on what it tells): a turn receives
-//! from the client (`receiving`) and then sends to it (`sending`). The lobby is held by `lobby_holds` alone, and no
-//! link is read or written meanwhile. The contract of a turn (`specs/Turned.antt`) speaks of all bytes that the link
+//! A worker calls [`serve`] for a turn, or [`serve_within`], which also bounds how much the turn's lines may tell.
+//!
+//! For example (`lobby_tests/src/turns/serving.rt`):
+//!
+//! ```rust
+//! let (next, Turn { state, wakes: _ }, _) = serve_within(
+//!     rt, conn, link, desk, pass, gate, allowance,
+//! );
+//! pass = next;
+//! last = Some(state);
+//! if state == TurnState::Closed {
+//!     return (pass, last);
+//! }
+//! ```
+//!
+//! The state says how the connection stands then: `Closed` is that of a client that was shut, which gets no more turns.
+//!
+//! A turn receives from the client (`receiving`), and then sends to it (`sending`). It holds the lobby by `lobby_holds`
+//! alone, and reads or writes no link meanwhile. Its contract (`specs/Turned.antt`) speaks of all bytes that the link
 //! tells: none is lost, doubled or out of its order, whatever the link does.
 #![tactic(auto)]
 

@@ -10,10 +10,10 @@ use Rattle.room_lists.specs.Units.{without_units, words_new, words_there}
 use Rattle.room_lists.specs.Room.{Room, Bot, Rect, member_names, with_status, with_bot, with_bot_status, without_bot, with_rect, without_rect, set_tags, remove_tags, disable_units, enable_units, enable_all}
 use Rattle.room_lists.proofs.Listed.{new_alone}
 use Rattle.lobby_model.specs.State.{State, Battle, battle_of}
-use Rattle.lobby_model.specs.Outcome.{Happening, happens, tell, users}
 use Rattle.lobby_model.specs.Battles.{change_room, in_room, members, member_has, bot_line, rect_line}
 use Rattle.lobby_model.specs.Rooms.{bot_has, removed_line, disabled_line, enabled_line}
 use Rattle.lobby_model.specs.Sound.{Sound}
+use Rattle.lobby_model.proofs.Clauses.{told_members}
 use Rattle.lobby_model.proofs.RoomsKept.{names_with_status}
 use Rattle.lobby_view.specs.View.{View, shown_all, in_room_of}
 use Rattle.lobby_view.specs.Observe.{observe, shared, own_room}
@@ -22,10 +22,6 @@ use Rattle.lobby_view.proofs.OwnBattle.{its_battle, not_its_battle}
 use Rattle.lobby_view.proofs.Changed.{room_of_same, not_own}
 use Rattle.lobby_view.proofs.Distinct.{none_dropped}
 use Rattle.lobby_view.proofs.Leaving.{in_its_own}
-
--- told to the members by lines that do to the room what happened
-abbrev pub told_members : ℕ → Battle → (Room → Room) → List Reply → Happening
-told_members id battle f lines = happens (λ s. change_room s id f) (tell (users (members battle)) lines ∷ [])
 
 -- keys that are not there take no tag away
 keys_suffice : (keys : List (List ℕ)) (tags : List Pair) → without_tags tags (keys_there tags keys) ≡ without_tags tags keys

@@ -1,8 +1,26 @@
-//! The server over sockets: what it makes before its workers start, these in threads of their own, each with its
-//! connections, a log for its operators and a record of what happens, each on its way to a thread that writes
-//! it, and why a server ends.
+//! The server over sockets: one lobby, worker threads that share it, and threads for its log and its record.
 //!
-//! What a worker does is in `worker_loop`.
+//! A program calls [`run_server`], or [`run_server_recorded`] for a server with a log and a record, and gets its exit
+//! status.
+//!
+//! For example (`lobby_tests/src/sockets/workers.rt`):
+//!
+//! ```rust
+//! Sends(ANNA, ANNA_LOGS_IN),
+//! Reads(ANNA, ANNA_IS_IN),
+//! Sends(BERT, BERT_LOGS_IN),
+//! Reads(ANNA, BERT_COMES),
+//! InputEnds,
+//! ServerEnds,
+//! IsClosed(ANNA),
+//! ```
+//!
+//! Anna and Bert have a worker each, and she is told that he comes. The server stops where its input ends, and closes
+//! their connections.
+//!
+//! The crate makes what the workers need before they start, each in a thread of its own with its own connections. What
+//! operators are told and what is recorded goes to threads that write it, and [`ServerError`] says why a server ends.
+//! `worker_loop` has what a worker does.
 #![tactic(auto)]
 
 mod error;

@@ -1,9 +1,32 @@
-//! Plays fixed schedules, and shows what came of them. With the argument `scarce` each call that wants memory is made
-//! with none first, and then with more and more until it suffices; with `counted`, and the library
-//! checks/refuse_allocation.c, with its first growth refused, and then with the next one, until none is. After each
-//! refusal what public calls tell is compared with what they tell of one to which nothing was refused. It shows the
-//! same then, but for the count of the refusals. With `bounds` no call is refused memory: it shows how much parts of a
-//! script may take.
+//! A program that refuses memory to one call after another, and checks what each refusal leaves behind.
+//!
+//! Most of its trials go by [`refusing::deeds::try_deeds`], which does a list of deeds to one subject, to which memory
+//! is refused, and to another, to which it is not.
+//!
+//! For example (`memory_trials/src/refusing/deeds.rt`):
+//!
+//! ```rust
+//! refuser.begin(step);
+//! let is_done = self.tried.act(alloc, client, deed);
+//! refuser.end();
+//! if is_done {
+//!     refuser.release();
+//!     return self.other.act(alloc, client, deed);
+//! }
+//! notes.refuse(self.tried.is_as(&mut self.other));
+//! ```
+//!
+//! After each refusal, what public calls tell of the one is compared with what they tell of the other.
+//!
+//! The program plays fixed schedules, and shows what came of them:
+//!
+//! - without an argument it refuses nothing;
+//! - with `scarce` it makes each call that wants memory with none first, and then with more and more until it suffices;
+//! - with `counted`, and the library checks/refuse_allocation.c, it makes each call with its first growth refused, and
+//!   then with the next one, until none is;
+//! - with `bounds` it refuses nothing either, and shows how much memory parts of a script may take.
+//!
+//! The first three show the same, but for the count of the refusals.
 #![tactic(auto)]
 
 mod bounds;

@@ -1,13 +1,29 @@
-//! The outbox of one client: a queue of bytes with a limit, which takes memory only when it is
-//! asked to make room.
+//! One client's unread bytes, copied or shared, with a limit.
 //!
-//! Putting is split in two, so that an event that goes to many clients can fail for want of memory
-//! before it has changed any of them: [`Outbox::reserve`] and [`Outbox::reserve_shared`] may fail
-//! and change nothing that a client sees, and [`Outbox::put`] and [`Outbox::put_shared`] cannot
-//! fail.
+//! One asks an [`Outbox`] for room by `room_for` and `reserve`, puts bytes by `put`, and reads them by `take`.
 //!
-//! What is put is copied behind the outbox's own bytes, or shared: a piece that several outboxes
-//! hold lies in memory once. It is for the caller to choose; nobody who reads sees a difference.
+//! The test puts bytes by copying or as a shared piece. A reader takes bytes into a buffer of eight, or copies some
+//! from a place on, and the buffer is then as shown.
+//!
+//! For example (`leaf_tests/src/outboxes.rt`):
+//!
+//! ```rust
+//! Step::Puts(b"PONG\n"),
+//! Step::Shares(b"SAIDo\n"),
+//! Step::Shares(b""),
+//! Step::Puts(b"ENDOF\n"),
+//! Step::CopiesFrom(9, 8, b"o\nENDOF\n"),
+//! Step::Takes(8, b"PONG\nSAI"),
+//! Step::Takes(8, b"Do\nENDOF"),
+//! ```
+//!
+//! An outbox takes memory only when it is asked to make room. Putting is split in two, so that an event that goes
+//! to many clients can fail for want of memory before it has changed any of them: [`Outbox::reserve`] and
+//! [`Outbox::reserve_shared`] may fail and change nothing that a client sees, and [`Outbox::put`] and
+//! [`Outbox::put_shared`] cannot fail.
+//!
+//! What is put is copied behind the outbox's own bytes, or shared: a piece that several outboxes hold lies in
+//! memory once. The caller chooses, and nobody who reads sees a difference.
 #![tactic(auto)]
 
 ghost use Rattle.std.specs.Prelude.{◌≡◌, ◌≢◌, ◌⊎◌, ◌+◌, ◌-◌, ◌^◌, ◌<◌, ◌≤◌, ◌↔◌, [], ◌++◌, length, take, drop, min};

@@ -1,4 +1,17 @@
-//! What each program answers of itself: `--help` and `--version`.
+//! What every program answers to `--help` and `--version`.
+//!
+//! A program calls [`answers`] first, with its name and its help, and ends if that says that it has answered.
+//!
+//! For example (`checks/programs.sh`):
+//!
+//! ```text
+//! tells lobby_main 'lobby_main serve SETTINGS ACCOUNTS'
+//! tells lobby_play 'lobby_play < SCRIPT'
+//! tells lobby_check 'lobby_check SETTINGS ACCOUNTS'
+//! tells view_show 'view_show [whole|BYTES] < RECEIVED'
+//! ```
+//!
+//! Each `tells` there asks a program for its version, and for its help, which begins with this usage.
 #![tactic(auto)]
 
 use std::alloc::AllocError;
@@ -8,7 +21,7 @@ use std::rt::{Env, Files};
 use std::{env, str};
 
 /// The version of all programs: the newest numbered one in CHANGELOG.
-pub const VERSION: &str = "0.1.0";
+pub const VERSION: &str = "0.2.0";
 
 /// How many bytes a build that is no release appends to a program, and how they begin. Its version is behind that, and
 /// then spaces. So a proof need not be made anew for each commit.

@@ -1,11 +1,26 @@
-//! What a record of a server has: its head, and the lines of its events.
+//! The lines of a server's record, by which its events can be played again.
 //!
-//! An event is written as the steps of a script by which it is played again, a line each behind the place of the event.
-//! What a step says is defined here (`specs/Steps.antt`), and the crate `lobby_script` reads by the same definitions.
+//! [`put_entry`] appends the lines of an event: the steps of a script, each behind the place of the event.
 //!
-//! No word of a password is written: a login that named its account's word has the word that each account of the head
-//! has, and any other login one that none has, so that both are answered again as they were. Nor is what may be a
-//! password out of its place: the address and the lobby of a login, its name where that is none, and the key of a JOIN.
+//! For example (`leaf_tests/src/records.rt`):
+//!
+//! ```rust
+//! (
+//!     b"#4 LOGIN Anna X03MO1qnZdYdgyfeuILPmQ== 0 * TestLobby 1.0\t7\tb",
+//!     true,
+//!     b"9 send 3 #4 LOGIN Anna AAAAAAAAAAAAAAAAAAAAAA== 0 * \\t\\tb\\n\n9 take 3\n",
+//! ),
+//! ```
+//!
+//! There client 3 logs in at place 9, private talk is recorded (`true`), and the last bytes are what the record has.
+//!
+//! The word of a password is never written. A login with its account's word gets the one that each account of the head
+//! has, and any other login gets one that no account has, so both are answered again as they were. The record also
+//! leaves out what may be a password in another place: the address and the lobby of a login, its name if that is no
+//! name, and the key of a JOIN.
+//!
+//! The head of a record is its settings and accounts, by [`settings_file`] and [`accounts_file`]. What a step says is
+//! defined here (`specs/Steps.antt`), and the crate `lobby_script` reads by the same definitions.
 #![tactic(auto)]
 
 mod entry;

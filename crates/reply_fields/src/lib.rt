@@ -1,10 +1,26 @@
-//! The fields of a server's line, read from left to right: words, names, numbers, sentences, texts and lists of them.
+//! The fields of a server's line, read one by one from left to right.
 //!
-//! Each function takes the bytes that are left of a line, and gives the field with the bytes behind it. It reads just
-//! what `reply_printer` prints for the field, and answers `Unread` at all else: a number with a needless zero is
-//! refused. Those that take an `alloc` copy the field, and answer `Memory` where memory for that is refused.
+//! A call such as [`u32_at`] for a number or [`name_at`] for a name takes the bytes that are left of a line, and
+//! gives the field with the bytes behind it.
 //!
-//! It stands apart from `reply_grammar`, so that the wrong bodies that its contracts refuse are tried over it alone.
+//! The lines of the test are refused, since their last word is no number as the server prints it in a status.
+//!
+//! For example (`leaf_tests/src/replies.rt`):
+//!
+//! ```rust
+//! b"CLIENTSTATUS Bert 012",
+//! b"CLIENTSTATUS Bert -0",
+//! b"CLIENTSTATUS Bert -1",
+//! b"CLIENTSTATUS Bert 4294967296",
+//! b"CLIENTSTATUS Bert 99999999999",
+//! b"CLIENTSTATUS Bert 1x",
+//! ```
+//!
+//! A call reads just what `reply_printer` prints for the field, and answers `Unread` at all else. Those that take
+//! an `alloc` copy the field, and answer `Memory` where memory for that is refused.
+//!
+//! It stands apart from `reply_grammar`, so that the wrong bodies that its contracts refuse are tried over it
+//! alone.
 #![tactic(auto)]
 
 mod error;

@@ -57,6 +57,7 @@ unfolding named
 named_again command.TasServer = refl
 named_again c = refl
 
+-- Written by tools/protocol.py of protocol/replies.toml: ends of words.
 -- what follows the command word is the end or a space, and no command word begins with `#`
 ends_word : (c : CommandWord) (xs : Values (kinds_of c)) → Ends 32 (all_printed (kinds_of c) xs)
 ends_word command.LoginInfoEnd xs = tt
@@ -70,6 +71,8 @@ ends_word command.DisableUnits xs = opens Words xs.0 [] tt refl
 ends_word command.EnableUnits xs = opens Words xs.0 [] tt refl
 ends_word command.EnableAllUnits xs = tt
 ends_word c xs = refl
+
+-- End of what is written: ends of words.
 
 made_again : (r : Reply) → reply_of_values (command_of r) (values_of r) ≡ r
 made_again (reply.TasServer a b c d) = refl

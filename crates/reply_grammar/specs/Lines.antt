@@ -17,6 +17,7 @@ use Rattle.reply_grammar.specs.Reading.{shaped}
 abbrev pub same : List ℕ → List ℕ → Bool
 same = pointwise nat_eq
 
+-- Written by tools/protocol.py of protocol/replies.toml: command words.
 -- all command words
 abbrev pub commands : List CommandWord
 commands =
@@ -33,6 +34,8 @@ commands =
     ∷ command.RemoveScriptTags ∷ command.ForceQuitBattle
     ∷ command.Ring ∷ command.JoinBattleRequest ∷ command.DisableUnits ∷ command.EnableUnits ∷ command.EnableAllUnits
     ∷ []
+
+-- End of what is written: command words.
 
 -- the command word that is this text
 unfoldable pub named : List ℕ → Option CommandWord
@@ -57,6 +60,7 @@ opened_of_values x = record {
   game_name = x.1.1.1.1.1.1.1.1.1.1.1.1.1.0;
 }
 
+-- Written by tools/protocol.py of protocol/replies.toml: replies of values.
 -- the reply of these arguments
 abbrev pub reply_of_values : (c : CommandWord) → Values (kinds_of c) → Reply
 reply_of_values command.TasServer x = reply.TasServer x.0 x.1.0 x.1.1.0 x.1.1.1.0
@@ -106,6 +110,8 @@ reply_of_values command.JoinBattleRequest x = reply.JoinBattleRequest x.0 x.1.0
 reply_of_values command.DisableUnits x = reply.DisableUnits x.0
 reply_of_values command.EnableUnits x = reply.EnableUnits x.0
 reply_of_values command.EnableAllUnits x = reply.EnableAllUnits
+
+-- End of what is written: replies of values.
 
 -- the arguments of one command, to the end
 abbrev pub read_arguments : CommandWord → List ℕ → Option Reply

@@ -7,7 +7,9 @@ use crate::table::words_of_rows;
 use reply_kinds::CommandWord;
 use reply_printer::with_replies;
 
+// Written by tools/protocol.py of protocol/replies.toml: count.
 const ALL: [CommandWord; 47] = with_replies!(words_of_rows());
+// End of what is written: count.
 
 /// The command word that prints so.
 #[tactic(auto, using(crate::proofs::Named::named_same))]

@@ -1,9 +1,22 @@
-//! The replies of the lobby as values: the lines that it sends, each field lent or owned.
+//! The lobby's replies as values: the lines that it sends, with each field lent or owned.
 //!
-//! A line is an optional message id (`#7 `), the command word, the arguments, and LF. Each word
-//! stands behind one space; the first sentence or the text stands behind one space too, and
-//! further sentences behind tabs. The crate `reply_printer` prints the lines, and `reply_grammar`
-//! reads them back.
+//! A [`Reply`] is one line to a client, made of its fields in their order.
+//!
+//! The reply of the test prints as `#7 SERVERMSG Log in first`.
+//!
+//! For example (`leaf_tests/src/replies.rt`):
+//!
+//! ```rust
+//! let refusal = line_words::Text::lend(b"Log in first");
+//! let reply = Reply::ServerMsg {
+//!     text: Text(HeldText::Fixed(&refusal)),
+//! };
+//! print(&reply, Some(7), out)
+//! ```
+//!
+//! A line is an optional message id (`#7 `), the command word, the arguments, and LF. Each word stands behind one
+//! space. The first sentence or the text stands behind one space too, and further sentences behind tabs. The crate
+//! `reply_printer` prints the lines, and `reply_grammar` reads them back.
 #![tactic(auto)]
 
 mod command_word;
@@ -27,6 +40,7 @@ pub use opened_battle::OpenedBattle;
 /// 0 to 1, `nat_type` 0 to 2, and colours, hashes, ranks and `cpu` -2147483648 to 4294967295. The type
 /// does not hold these, and printing does not ask for them.
 pub enum Reply<'a> {
+    // Written by tools/protocol.py of protocol/replies.toml: variants.
     /// `TASSERVER`. The greeting: the versions spoken, the UDP port for address translation and the server's mode.
     TasServer {
         protocol_version: Word<'a>,
@@ -248,6 +262,7 @@ pub enum Reply<'a> {
     },
     /// `ENABLEALLUNITS`. No unit is disabled any more.
     EnableAllUnits,
+    // End of what is written: variants.
 }
 
 impl Drop for Reply<'_> {
@@ -256,6 +271,7 @@ impl Drop for Reply<'_> {
     #[rattlefmt::skip]
     fn drop(self) {
         match self {
+            // Written by tools/protocol.py of protocol/replies.toml: drop.
             Reply::TasServer { protocol_version: _, spring_version: _, udp_port: _, server_mode: _ }
             | Reply::Accepted { user: _ } | Reply::Denied { text: _ } | Reply::Motd { text: _ }
             | Reply::ServerMsg { text: _ } | Reply::AddUser { user: _, country: _, cpu: _, account: _ }
@@ -282,6 +298,7 @@ impl Drop for Reply<'_> {
             | Reply::RemoveScriptTags { keys: _ } | Reply::ForceQuitBattle | Reply::Ring { user: _ }
             | Reply::JoinBattleRequest { user: _, ip: _ } | Reply::DisableUnits { units: _ }
             | Reply::EnableUnits { units: _ } | Reply::EnableAllUnits => {}
+            // End of what is written: drop.
         }
     }
 }

@@ -1,7 +1,19 @@
-//! The replies of the lobby, printed: a reply as its line, a message id alone as the front of one.
+//! The lobby's replies printed as the lines that clients are sent.
 //!
-//! What the replies are stands in the crate `reply_kinds`. The crate `reply_grammar` gives clients and
-//! bots this with the reading of lines; the server only prints.
+//! [`print`] appends the line of a reply to a `Vec`, behind a message id where there is one.
+//!
+//! For example (`leaf_tests/src/replies.rt`):
+//!
+//! ```rust
+//! let mut out = Vec::new(rt.alloc());
+//! same(&rt, print(&Reply::Pong, None, &mut out), Ok(()));
+//! same(&rt, print(&Reply::Pong, Some(7), &mut out), Ok(()));
+//! same(&rt, out.as_slice(), b"PONG\n#7 PONG\n".as_slice());
+//! ```
+//!
+//! [`print_id`] prints a message id alone, as the front of a line. The replies are values of the crate
+//! `reply_kinds`. The crate `reply_grammar` gives clients and bots this together with the reading of lines, since
+//! the server only prints.
 #![tactic(auto)]
 
 mod arguments;

@@ -11,6 +11,7 @@ macro_rules! with_replies {
     ($write:ident($($given:ident),*)) => {
         $write! {
             ($($given),*)
+            // Written by tools/protocol.py of protocol/replies.toml: rows.
             TasServer { protocol_version, spring_version, udp_port, server_mode }
             Accepted { user }
             Denied { text }
@@ -58,6 +59,7 @@ macro_rules! with_replies {
             DisableUnits { units }
             EnableUnits { units }
             EnableAllUnits {}
+            // End of what is written: rows.
         }
     };
 }

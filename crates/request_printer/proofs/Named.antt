@@ -9,6 +9,7 @@ use Rattle.command_grammar.specs.Forms.{applied, is_same, entry_named, command_n
 use Rattle.command_grammar.specs.Table.{Values, Entry, arguments_of, entries, battle_entries, room_entries, host_entries}
 use Rattle.request_printer.specs.Writing.{HasWord}
 
+-- Written by tools/protocol.py of protocol/commands.toml: words.
 -- the word of each command; of a line that was not read there is none
 abbrev pub word_named : Command → Option (List ℕ)
 word_named command.Blank = Some []
@@ -49,6 +50,8 @@ word_named (command.Leave a) = Some (codes "LEAVE")
 word_named (command.Say a b) = Some (codes "SAY")
 word_named (command.SayEx a b) = Some (codes "SAYEX")
 word_named (command.SayPrivate a b) = Some (codes "SAYPRIVATE")
+
+-- End of what is written: words.
 
 -- a command that the table makes under a word has that word
 made : {word : List ℕ} {e : Entry} → command_named word ≡ Some e → word ≡ e.word → (xs : Values e.kinds)

@@ -1,8 +1,22 @@
-//! Requests, printed: what a client asks of the lobby as its line.
+//! A client's request printed as the line that the lobby reads as this request.
 //!
-//! `specs/Writing.antt` says what the line of a request is, by the table of commands that it is read by,
-//! and `specs/Faults.antt` which requests have none. With the reading of `command_grammar` this is the
-//! grammar of requests both ways, for clients and bots; the server only reads.
+//! [`print_request`] appends the line of a [`Request`] to a `Vec`, or answers with a [`PrintError`] and appends
+//! nothing.
+//!
+//! The test reads each line on the left, and its request prints as the line on the right.
+//!
+//! For example (`leaf_tests/src/requests.rt`):
+//!
+//! ```rust
+//! (b"MYSTATUS -0", b"MYSTATUS 0"),
+//! (b"MYSTATUS 4294967295", b"MYSTATUS 4294967295"),
+//! (b"JOIN  main  ", b"JOIN main"),
+//! (b"#8 JOIN main key", b"#8 JOIN main key"),
+//! ```
+//!
+//! `specs/Writing.antt` says what the line of a request is, by the table of commands that it is read by, and
+//! `specs/Faults.antt` which requests have none. With the reading of `command_grammar` this is the grammar of
+//! requests both ways, for clients and bots, since the server only reads.
 #![tactic(auto)]
 
 mod argument_rows;

@@ -1,7 +1,16 @@
-//! The log of a server for its operators: what is told, at which level, and as which line.
+//! The server's log for its operators: what is told, at which level, and as which line.
 //!
-//! A line has a fixed word and then `key=value`, each behind a space. What clients send stands in it as harmless bytes,
-//! so nobody forges a line or a field. There is no clock in it: who keeps the lines stamps them.
+//! [`print`] appends the line of a [`Happening`] to bytes, and [`LogLevel`] says whether it is told.
+//!
+//! For example (`checks/log.py`):
+//!
+//! ```text
+//! anna = logged_in(server, ANNA, [])
+//! wanted += ["login name=Anna client=1 ip=127.0.0.1"]
+//! ```
+//!
+//! A line has a fixed word and then `key=value`, each behind a space. What clients send is written as harmless bytes,
+//! so nobody forges a line or a field. A line has no time: who keeps the lines stamps them.
 #![tactic(auto)]
 
 mod happening;

@@ -1,5 +1,21 @@
-//! What crates of tests share: three users and two who look on, what they say and are told, lobbies of them and of a
-//! crowd, and a link in memory.
+//! What crates of tests share: users with their lines, lobbies of them, and a link in memory.
+//!
+//! A test calls [`new_lobby`] for a lobby of Anna, Bert and Cleo, and makes a [`MemoryLink`] where turns want a link.
+//!
+//! For example (`lobby_tests/src/turns/side_by_side.rt`):
+//!
+//! ```rust
+//! /// The link of a client that sends `PING`.
+//! fn pinging(alloc: Global) -> Result<MemoryLink, AllocError> {
+//!     let input = Vec::from_slice(alloc, b"PING\n")?;
+//!     Ok(MemoryLink::new(alloc, input, 9, 100))
+//! }
+//! ```
+//!
+//! A read of this link gives up to 9 bytes, and a write takes up to 100. After a turn `MemoryLink::output` has what the
+//! client was told: its greeting and `PONG`.
+//!
+//! Two more users look on ([`book_with_onlookers`]), and [`crowd_lobby`] makes a lobby of a crowd.
 #![tactic(auto)]
 
 mod crowd;

@@ -1,6 +1,22 @@
-//! Shows what a client knows of the lobby. The bytes that it was sent come on standard input, and
-//! what it knows behind the last of them goes to standard output. With a number as argument at most
-//! so many bytes are folded at once, and with `whole` all of them, which shows the same.
+//! A program that shows what a client knows of the lobby, from the bytes that it was sent.
+//!
+//! It folds its standard input into a [`View`], and writes what the view has behind the last byte to standard output by
+//! [`show`].
+//!
+//! For example (`rows/battles/founder_disconnects_seen_by_a_member.2.view`):
+//!
+//! ```text
+//! me Bert
+//! user Bert ?? 0 2 12
+//! user Cleo FR 0 3 0
+//! channel main
+//!   member Bert
+//! ```
+//!
+//! This is all that it shows for Bert, after the founder of his battle has disconnected.
+//!
+//! With a number as argument it folds at most so many bytes at once, and with `whole` all of them, which shows the
+//! same.
 #![tactic(auto)]
 
 use anyhow::{Error, anyhow};

@@ -1,11 +1,12 @@
 //! Clients that go while memory is short. The server keeps a reserve for what others are told of them.
 
 ghost use Rattle.std.specs.Prelude.{◌≡◌};
+ghost use Rattle.lobby_connections.specs.Attended.{KeepsAttended};
 
-use crate::turns::{Shared, serve_or_shut};
-use lobby_connections::{Connection, Connections, PollTimeout};
+use crate::turns::Shared;
+use lobby_connections::{Connection, Connections, PollTimeout, Served};
 use lobby_lock::Pass;
-use lobby_turns::{Gate, Turn, TurnState};
+use lobby_turns::{Gate, TurnState};
 use server_log::{Cause, Happening, ReserveState};
 use std::sync::Wait;
 
@@ -21,30 +22,26 @@ pub fn is_leaving(connection: &Connection) -> bool {
     }
 }
 
-/// The turn of the connection under a key goes on, in which no line is said any more that tells many. How much all of
-/// it told comes with it.
+/// A turn goes on, in which no line is said any more that tells many.
 fn go_on<R: Wait, G: Gate>(
     rt: &R,
     shared: &Shared<'_, G>,
     pass: Pass,
     connections: &mut Connections,
-    key: usize,
-    turn: Turn,
-    told: u64,
-) -> (Pass, Turn, u64)
+    served: Served,
+) -> (Pass, Served)
     requires { pass.desk ≡ shared.now.desk.now }
     ensures desk { result.0.desk ≡ pass.desk }
     ensures number { result.0.worker.number ≡ pass.worker.number }
+    ensures table { connections.new ≡ connections.old }
+    ensures key { result.1.key ≡ served.key }
 {
-    let Some(connection) = connections.in_turn(key) else {
-        return (pass, turn, told);
-    };
-    let (pass, more, told_more) = serve_or_shut(rt, shared, pass, connection, 0);
-    let turn = Turn {
-        state: more.state,
-        wakes: turn.wakes.union(more.wakes),
-    };
-    (pass, turn, told.saturating_add(told_more))
+    let key = served.key();
+    let (pass, more) = connections.serve(rt, key, shared.desk, pass, shared.gate, 0);
+    match more {
+        Some(more) => (pass, served.and(more)),
+        None => (pass, served),
+    }
 }
 
 /// The turn of a client that leaves was refused memory: it goes on with what was let go meanwhile, and then with the
@@ -54,29 +51,31 @@ pub fn go_on_from_reserve<R: Wait, G: Gate>(
     shared: &Shared<'_, G>,
     pass: Pass,
     connections: &mut Connections,
-    key: usize,
-    turn: Turn,
-    told: u64,
-) -> (Pass, Turn, u64)
+    served: Served,
+) -> (Pass, Served)
     requires { pass.desk ≡ shared.now.desk.now }
     ensures desk { result.0.desk ≡ pass.desk }
     ensures number { result.0.worker.number ≡ pass.worker.number }
+    ensures table { connections.new ≡ connections.old }
+    ensures key { result.1.key ≡ served.key }
 {
-    let (pass, turn, told) = go_on(rt, shared, pass, connections, key, turn, told);
-    if turn.state != TurnState::Memory {
-        return (pass, turn, told);
+    let (pass, served) = go_on(rt, shared, pass, connections, served);
+    if served.state() != TurnState::Memory {
+        return (pass, served);
     }
     shared.reserve.give_up();
-    let (pass, turn, told) = go_on(rt, shared, pass, connections, key, turn, told);
+    let (pass, served) = go_on(rt, shared, pass, connections, served);
     if shared.reserve.take_back() {
         shared.gate.tell(Happening::Reserve(ReserveState::Gone));
     }
-    (pass, turn, told)
+    (pass, served)
 }
 
 /// Takes anew what is missing of the reserve, and tells operators where it is whole again. While memory is refused, the
 /// worker tries again soon.
-pub fn renew_reserve<G: Gate>(shared: &Shared<'_, G>, connections: &mut Connections) {
+pub fn renew_reserve<G: Gate>(shared: &Shared<'_, G>, connections: &mut Connections)
+    ensures { KeepsAttended connections.old connections.new }
+{
     if !shared.reserve.renew() {
         connections.hurry(PollTimeout::Short);
     } else if shared.reserve.is_back() {

@@ -1,6 +1,7 @@
 //! The turns of a worker's connections. A worker takes the lobby for them, which may wait.
 
-ghost use Rattle.std.specs.Prelude.{◌≡◌, ◌<◌, [], ◌∷◌, ◌++◌, OnOk, OnErr};
+ghost use Rattle.std.specs.Prelude.{◌≡◌, ◌<◌, [], ◌∷◌, ◌++◌, ℕ, List, OnOk, OnErr};
+ghost use Rattle.lobby_connections.specs.Attended.{IsAttended, KeepsAttended};
 ghost use Rattle.lobby_model.specs.declared.event.Event.TheVariants as event;
 ghost use Rattle.lobby_lock.specs.Passes.{pass_after};
 ghost use Rattle.lobby_turns.specs.Holds.{IsTaken, Stands};
@@ -8,12 +9,13 @@ ghost use Rattle.lobby_turns.specs.Holds.{IsTaken, Stands};
 use crate::inboxes::{Arrival, Inboxes};
 use crate::leaving::{go_on_from_reserve, is_leaving};
 use crate::reserve::Reserve;
-use crate::wakers::Wakers;
-use lobby_connections::{Connection, Connections, Fronted, NAMES_IN_HOLD, Newcomers};
+use lobby_connections::{
+    Connection, Connections, Fronted, NAMES_IN_HOLD, Newcomers, Served, Wakers,
+};
 use lobby_lock::{Desk, Held, Pass};
-use lobby_machine::{OpenError, Wakes};
+use lobby_machine::OpenError;
 use lobby_model::WORKERS;
-use lobby_turns::{Conn, Gate, GatedDesk, Link, Turn, TurnState, close, serve_within};
+use lobby_turns::{Gate, GatedDesk, TurnState};
 use mio::{Registry, Token};
 use server_log::{Cause, Happening, Refusal};
 use std::sync::Wait;
@@ -62,6 +64,7 @@ pub fn adopt<R: Wait, G: Gate>(
     requires { pass.desk ≡ shared.now.desk.now }
     ensures desk { result.desk ≡ pass.desk }
     ensures number { result.worker.number ≡ pass.worker.number }
+    ensures attended { KeepsAttended connections.old connections.new }
 {
     let Arrival { stream, ip } = arrival;
     let Some(link) = connections.prepare(registry, stream) else {
@@ -70,13 +73,16 @@ pub fn adopt<R: Wait, G: Gate>(
     };
     let (pass, opened) = open(rt, shared, pass, ip);
     match opened {
-        Ok(client) => connections.put(client, ip, link),
+        Ok(client) => {
+            let _ = connections.put(client, ip, link);
+            pass
+        }
         Err(error) => {
             drop(link);
             tell_unserved(shared.gate, refusal_of(error), ip);
+            pass
         }
     }
-    pass
 }
 
 /// Takes in what came of a connection of a front: its client, or operators are told of a line that is none.
@@ -91,6 +97,7 @@ pub(crate) fn adopt_fronted<R: Wait, G: Gate>(
     requires { pass.desk ≡ shared.now.desk.now }
     ensures desk { result.desk ≡ pass.desk }
     ensures number { result.worker.number ≡ pass.worker.number }
+    ensures attended { KeepsAttended connections.old connections.new }
 {
     match fronted {
         Fronted::Client { stream, ip } => {
@@ -121,7 +128,8 @@ fn refusal_of(error: OpenError) -> Refusal {
     }
 }
 
-/// The connection under a key gets its turn of this round. Nothing happens where there is none.
+/// The connection under a key gets its turn of this round, if it is to get one, or is put off. Nothing happens where
+/// there is none.
 pub fn turn<R: Wait, G: Gate>(
     rt: &R,
     shared: &Shared<'_, G>,
@@ -133,6 +141,7 @@ pub fn turn<R: Wait, G: Gate>(
     requires { pass.desk ≡ shared.now.desk.now }
     ensures desk { result.desk ≡ pass.desk }
     ensures number { result.worker.number ≡ pass.worker.number }
+    ensures attended { (rest : List ℕ) → IsAttended connections.old (key ∷ rest) → IsAttended connections.new rest }
 {
     if connections.is_put_off(key) {
         return pass;
@@ -141,7 +150,7 @@ pub fn turn<R: Wait, G: Gate>(
     turn_within(rt, shared, pass, connections, registry, key, allowance)
 }
 
-/// The connection under a key gets its turn of this round, in which it may tell so much. Nothing happens where
+/// The connection under a key gets its turn, if it is to get one, in which it may tell so much. Nothing happens where
 /// there is none.
 fn turn_within<R: Wait, G: Gate>(
     rt: &R,
@@ -155,32 +164,84 @@ fn turn_within<R: Wait, G: Gate>(
     requires { pass.desk ≡ shared.now.desk.now }
     ensures desk { result.desk ≡ pass.desk }
     ensures number { result.worker.number ≡ pass.worker.number }
+    ensures attended { (rest : List ℕ) → IsAttended connections.old (key ∷ rest) → IsAttended connections.new rest }
 {
-    let Some(connection) = connections.begin_turn(key) else {
+    if !connections.begins_turn(key) {
+        return pass;
+    }
+    let written = writes_at(connections, key);
+    let (pass, served) = connections.serve(rt, key, shared.desk, pass, shared.gate, allowance);
+    let Some(served) = served else {
         return pass;
     };
-    let written = connection.link.writes();
-    let (pass, turn, told) = serve_or_shut(rt, shared, pass, connection, allowance);
-    let writes = connection.link.writes().wrapping_sub(written);
-    let leaves = turn.state == TurnState::Memory && is_leaving(connection);
-    tell_refused(shared.gate, connections, pass.number(), turn.state);
-    let (pass, turn, told) = if leaves {
-        go_on_from_reserve(rt, shared, pass, connections, key, turn, told)
-    } else {
-        (pass, turn, told)
-    };
-    if let Some(connection) = connections.at(key) {
-        tell_logout(shared.gate, connection, turn.state, Cause::Closed);
+    let writes = writes_at(connections, key).wrapping_sub(written);
+    let (pass, served) = go_on_if_leaving(rt, shared, pass, connections, served);
+    end_turn(shared, connections, registry, pass.number(), served, writes);
+    pass
+}
+
+/// How many writes the link of the connection under a key made.
+fn writes_at(connections: &Connections, key: usize) -> u64 {
+    match connections.at(key) {
+        Some(connection) => connection.link.writes(),
+        None => 0,
     }
-    connections.end_turn(registry, key, turn.state);
-    if turn.state == TurnState::Closed {
+}
+
+/// A turn was made. Where it was refused memory, operators are told, and one whose client leaves goes on.
+fn go_on_if_leaving<R: Wait, G: Gate>(
+    rt: &R,
+    shared: &Shared<'_, G>,
+    pass: Pass,
+    connections: &mut Connections,
+    served: Served,
+) -> (Pass, Served)
+    requires { pass.desk ≡ shared.now.desk.now }
+    ensures desk { result.0.desk ≡ pass.desk }
+    ensures number { result.0.worker.number ≡ pass.worker.number }
+    ensures table { connections.new ≡ connections.old }
+    ensures key { result.1.key ≡ served.key }
+{
+    if served.state() != TurnState::Memory {
+        return (pass, served);
+    }
+    tell_refused(shared.gate, connections, pass.number());
+    let leaves = match connections.at(served.key()) {
+        Some(connection) => is_leaving(connection),
+        None => false,
+    };
+    if leaves {
+        go_on_from_reserve(rt, shared, pass, connections, served)
+    } else {
+        (pass, served)
+    }
+}
+
+/// A turn is over, in which so many writes were made: its connection goes on as it ended, and the workers are told
+/// whose clients it touched: the others by their wakers, this one, which is that of this home, by its note.
+fn end_turn<G: Gate>(
+    shared: &Shared<'_, G>,
+    connections: &mut Connections,
+    registry: &Registry,
+    home: u8,
+    served: Served,
+    writes: u64,
+)
+    requires { home < WORKERS }
+    ensures { (rest : List ℕ) → IsAttended connections.old (served.key ∷ rest) → IsAttended connections.new rest }
+{
+    let (state, told) = (served.state(), served.told());
+    if let Some(connection) = connections.at(served.key()) {
+        tell_logout(shared.gate, connection, state, Cause::Closed);
+    }
+    connections.end_turn(registry, served, home);
+    if state == TurnState::Closed {
         shared.reserve.return_freed();
     }
     connections.count_told(told);
     connections.count_told(writes.saturating_sub(1).saturating_mul(WRITE));
-    pass_on(shared, connections, pass.number(), turn.wakes);
-    shared.gate.after_turn(pass.number(), told);
-    pass
+    let _ = connections.wake_others(shared.wakers, home);
+    shared.gate.after_turn(home, told);
 }
 
 /// Tells operators of the log out where a turn shut its client: by this cause where neither client nor link gave one.
@@ -202,11 +263,11 @@ pub(crate) fn tell_logout<G: Gate>(
     }
 }
 
-/// Tells operators where a turn was refused memory, and none of the worker's was before in this round and the last.
-fn tell_refused<G: Gate>(gate: &G, connections: &mut Connections, worker: u8, state: TurnState)
+/// A turn was refused memory. Tells operators, where none of the worker's was before in this round and the last.
+fn tell_refused<G: Gate>(gate: &G, connections: &mut Connections, worker: u8)
     ensures { connections.new ≡ connections.old }
 {
-    if state == TurnState::Memory && connections.refuse() {
+    if connections.refuse() {
         gate.tell(Happening::MemoryRefused { worker });
     }
 }
@@ -225,27 +286,49 @@ pub fn turn_told<R: Wait, G: Gate>(
     requires { pass.desk ≡ shared.now.desk.now }
     ensures desk { result.desk ≡ pass.desk }
     ensures number { result.worker.number ≡ pass.worker.number }
+    ensures attended { (rest : List ℕ) → IsAttended connections.old (token.0 ∷ rest)
+        → IsAttended connections.new rest }
+{
+    let pass = read_told(rt, shared, pass, connections, newcomers, registry, token);
+    turn(rt, shared, pass, connections, registry, token.0)
+}
+
+/// What a poll told under a token of one that has no client: its line goes on, or what came is let go.
+fn read_told<R: Wait, G: Gate>(
+    rt: &R,
+    shared: &Shared<'_, G>,
+    pass: Pass,
+    connections: &mut Connections,
+    newcomers: &mut Newcomers,
+    registry: &Registry,
+    token: Token,
+) -> Pass
+    requires { pass.desk ≡ shared.now.desk.now }
+    ensures desk { result.desk ≡ pass.desk }
+    ensures number { result.worker.number ≡ pass.worker.number }
+    ensures attended { KeepsAttended connections.old connections.new }
 {
     if Newcomers::has(token) {
         let fronted = newcomers.turn(registry, token);
         return adopt_fronted(rt, shared, pass, connections, registry, fronted);
     }
-    if connections.discard_input(registry, token) {
-        return pass;
+    let _ = connections.discard_input(registry, token);
+    pass
+}
+
+/// How many bytes the turn of one who was left over may tell: that of the first a turn's at least.
+fn left_allowance(connections: &Connections, is_first: bool) -> u64 {
+    if !is_first {
+        connections.allowance()
+    } else if connections.due() == 1 {
+        connections.lone_allowance()
+    } else {
+        connections.turn_most()
     }
-    turn(rt, shared, pass, connections, registry, token.0)
 }
 
-/// Tells the workers whose clients a turn touched: the others by their wakers, this one by its note.
-fn pass_on<G: Gate>(shared: &Shared<'_, G>, connections: &mut Connections, home: u8, wakes: Wakes)
-    requires { home < WORKERS }
-{
-    connections.note_wakes(home, wakes);
-    shared.wakers.wake_others(home, wakes);
-}
-
-/// Those get their turn that were left in the round before. One who is left alone may tell what is left of the round.
-/// Whom these and later turns leave over stands in another list, that of the next round.
+/// Those get their turn that were left in the round before, or are new since then. One who is left alone may tell what
+/// is left of the round. Whom these and later turns leave over stands in another list, that of the next round.
 pub fn turn_left<R: Wait, G: Gate>(
     rt: &R,
     shared: &Shared<'_, G>,
@@ -256,22 +339,24 @@ pub fn turn_left<R: Wait, G: Gate>(
     requires { pass.desk ≡ shared.now.desk.now }
     ensures desk { result.desk ≡ pass.desk }
     ensures number { result.worker.number ≡ pass.worker.number }
+    ensures attended { KeepsAttended connections.old connections.new }
 {
     let mut pass = pass;
-    for round in 0..=connections.due() {
-        let allowance = match round {
-            0 if connections.due() == 1 => connections.lone_allowance(),
-            0 => connections.turn_most(),
-            _ => connections.allowance(),
-        };
+    let mut is_first = true;
+    for _ in 0..=connections.due() {
+        let allowance = left_allowance(connections, is_first);
         if allowance == 0 {
             break;
         }
         let Some(key) = connections.next_due() else {
             break;
         };
+        if !connections.begins_turn(key) {
+            continue;
+        }
         pass = turn_within(rt, shared, pass, connections, registry, key, allowance);
         connections.count_told(LEFT_TURN);
+        is_first = false;
     }
     pass
 }
@@ -296,6 +381,7 @@ pub fn turn_named<R: Wait, G: Gate>(
     requires { pass.desk ≡ shared.now.desk.now }
     ensures desk { result.desk ≡ pass.desk }
     ensures number { result.worker.number ≡ pass.worker.number }
+    ensures attended { KeepsAttended connections.old connections.new }
 {
     let mut pass = pass;
     let mut turns = 0;
@@ -303,15 +389,16 @@ pub fn turn_named<R: Wait, G: Gate>(
         if turns >= NAMED_TURNS {
             break;
         }
-        let Some(client) = connections.next_named() else {
+        let Some(key) = connections.next_named() else {
             break;
         };
-        if let Some(key) = connections.key_of(client)
-            && !connections.is_put_off(key)
-        {
-            pass = turn(rt, shared, pass, connections, registry, key);
-            turns += 1;
+        let is_put_off = connections.is_put_off(key);
+        if is_put_off {
+            continue;
         }
+        let most = connections.allowance();
+        pass = turn_within(rt, shared, pass, connections, registry, key, most);
+        turns += 1;
     }
     pass
 }
@@ -326,6 +413,7 @@ pub fn look_for_own<R: Wait, G: Gate>(
     requires { pass.desk ≡ shared.now.desk.now }
     ensures desk { result.desk ≡ pass.desk }
     ensures number { result.worker.number ≡ pass.worker.number }
+    ensures attended { KeepsAttended connections.old connections.new }
 {
     if !connections.is_pending() && connections.named() == 0 {
         return pass;
@@ -345,26 +433,22 @@ pub fn take_names<R: Wait, G: Gate>(
     requires { pass.desk ≡ shared.now.desk.now }
     ensures desk { result.desk ≡ pass.desk }
     ensures number { result.worker.number ≡ pass.worker.number }
+    ensures attended { KeepsAttended connections.old connections.new }
 {
     if connections.named() > 0 {
-        connections.set_pending(true);
+        connections.expect_names();
         return pass;
     }
-    connections.set_pending(false);
-    let count = connections.len();
-    // Without a connection nobody is named.
-    if count == 0 {
+    if connections.expects_nobody() {
         return pass;
     }
     let mut pass = pass;
-    for _ in 0..=count / NAMES_IN_HOLD {
-        let (after, are_all) = take_some_names(rt, shared, pass, connections);
-        pass = after;
-        if are_all {
-            return pass;
+    for _ in 0..=connections.len() / NAMES_IN_HOLD {
+        pass = take_some_names(rt, shared, pass, connections);
+        if !connections.is_pending() {
+            break;
         }
     }
-    connections.set_pending(true);
     pass
 }
 
@@ -394,21 +478,24 @@ fn give<R: Wait, G: Gate>(rt: &R, shared: &Shared<'_, G>, held: Held) -> Pass
     gated.give(rt, held)
 }
 
-/// Takes names of changed clients in one hold. Whether these are all.
+/// Takes names of changed clients in one hold, and then looks for their connections.
 fn take_some_names<R: Wait, G: Gate>(
     rt: &R,
     shared: &Shared<'_, G>,
     pass: Pass,
     connections: &mut Connections,
-) -> (Pass, bool)
+) -> Pass
     requires { pass.desk ≡ shared.now.desk.now }
-    ensures desk { result.0.desk ≡ pass.desk }
-    ensures number { result.0.worker.number ≡ pass.worker.number }
+    ensures desk { result.desk ≡ pass.desk }
+    ensures number { result.worker.number ≡ pass.worker.number }
+    ensures attended { KeepsAttended connections.old connections.new }
 {
     let home = pass.number();
     let mut held = take(rt, shared, pass);
-    let are_all = connections.take_names(&mut held, home);
-    (give(rt, shared, held), are_all)
+    connections.take_names(&mut held, home);
+    let pass = give(rt, shared, held);
+    connections.name_called();
+    pass
 }
 
 /// Opens a client, with its worker's number as home.
@@ -428,46 +515,4 @@ fn open<R: Wait, G: Gate>(
     let mut held = take(rt, shared, pass);
     let opened = held.open(ip, home);
     (give(rt, shared, held), opened)
-}
-
-/// One turn of a connection, and how much it told. The client of a link that has no room for a turn is shut. Where a
-/// link is gone and memory was refused, what waits for its client is let go, and from then on the client is not served
-/// but only shut.
-pub(crate) fn serve_or_shut<R: Wait, G: Gate>(
-    rt: &R,
-    shared: &Shared<'_, G>,
-    pass: Pass,
-    connection: &mut Connection,
-    allowance: u64,
-) -> (Pass, Turn, u64)
-    requires { pass.desk ≡ shared.now.desk.now }
-    ensures desk { result.0.desk ≡ pass.desk }
-    ensures number { result.0.worker.number ≡ pass.worker.number }
-{
-    let (pass, turn, told) = if connection.is_over() || !connection.link.fresh() {
-        shut(rt, shared, pass, &connection.conn)
-    } else {
-        let (conn, link) = (&mut connection.conn, &mut connection.link);
-        let most = Some(allowance);
-        serve_within(rt, conn, link, shared.desk, pass, shared.gate, most)
-    };
-    if turn.state != TurnState::Memory || !connection.refuse() {
-        return (pass, turn, told);
-    }
-    let pass = lobby_turns::give_up_unread(rt, &connection.conn, shared.desk, pass, shared.gate);
-    (pass, turn, told)
-}
-
-/// Shuts the client of a connection, and says how much that told.
-pub(crate) fn shut<R: Wait, G: Gate>(
-    rt: &R,
-    shared: &Shared<'_, G>,
-    pass: Pass,
-    conn: &Conn,
-) -> (Pass, Turn, u64)
-    requires { pass.desk ≡ shared.now.desk.now }
-    ensures desk { result.0.desk ≡ pass.desk }
-    ensures number { result.0.worker.number ≡ pass.worker.number }
-{
-    close(rt, conn, shared.desk, pass, shared.gate, Wakes::none())
 }

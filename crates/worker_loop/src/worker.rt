@@ -1,28 +1,27 @@
 //! A worker: it waits for news of its connections, and gives turns to those that may have some.
 
-ghost use Rattle.std.specs.Prelude.{◌≡◌, ◌≤◌};
+ghost use Rattle.std.specs.Prelude.{◌≡◌, ◌≤◌, []};
+ghost use Rattle.lobby_connections.specs.Attended.{IsAttended, KeepsAttended};
+ghost use Rattle.lobby_connections.specs.Told.{keys_of, told};
 
+use crate::acceptor::Acceptor;
 use crate::error::ListenError;
 use crate::inboxes::{Arrival, Inboxes};
 use crate::leaving::renew_reserve;
 use crate::reserve::Reserve;
 use crate::stopping::{Step, step_all};
 use crate::turns::{self, Shared};
-use crate::wakers::Wakers;
-use lobby_connections::{Connections, Newcomers, PollTimeout};
+use lobby_connections::{Connections, Lookout, Newcomers, PollTimeout, Wakers};
 use lobby_lock::{Desk, Pass};
 use lobby_turns::Gate;
+use mio::event::Event;
 use mio::net::TcpListener;
 use mio::{Events, Interest, Poll, Token, Waker};
 use proxy_line::Proxies;
-use server_log::{Happening, Refusal};
 use std::alloc::Global;
-use std::io::{self, ErrorKind};
-use std::mem;
-use std::net::{Net, SocketAddr};
+use std::net::Net;
 use std::sync::Wait;
 use std::sync::atomic::AtomicBool;
-use std::time::Duration;
 
 /// The token of a worker's waker. Connections have the keys of their table, far below.
 const WAKER: Token = Token(usize::MAX);
@@ -35,10 +34,6 @@ const LISTENER: Token = Token(usize::MAX - 1);
 /// the while.
 const EVENTS: usize = 1_024;
 
-/// The most connections that are accepted in a round, so that who waits to be accepted does not keep
-/// the worker from its connections.
-const ACCEPTS: u32 = 64;
-
 /// The most rounds of a worker that was told to stop, with a pause between two: three seconds, in which a client that
 /// is far away and was told twice that its connection ends has ended it too. Who does not read, or does not end, holds
 /// a stop up no longer.
@@ -47,14 +42,11 @@ const LAST_ROUNDS: u32 = 150;
 /// The milliseconds of a pause.
 const PAUSE: u64 = 20;
 
-/// What a worker listens with: its poll, with room for what one poll tells, from where fronts connect, and at one
-/// worker the server's listener.
+/// What a worker listens with: where it waits for news, from where fronts connect, and at one worker the server's
+/// listener.
 #[derive(Drop)]
 pub struct WorkerListener {
-    poll: Poll,
-    // it tells of nothing, and so waits as long as it is to
-    pause: Poll,
-    events: Events,
+    lookout: Lookout,
     listener: Option<TcpListener>,
     proxies: Proxies,
 }
@@ -62,16 +54,8 @@ pub struct WorkerListener {
 /// What a worker works with: what it listens with, and its connections.
 #[derive(Drop)]
 struct WorkerLoop {
-    poll: Poll,
-    pause: Poll,
-    events: Events,
-    listener: Option<TcpListener>,
-    // how many connections were accepted
-    accepted: u64,
-    // whether to accept though the poll does not tell of the listener
-    goes_on: bool,
-    // whether operators were told that the system accepts none, since when it did not
-    is_stuck: bool,
+    lookout: Lookout,
+    acceptor: Acceptor,
     // from where fronts connect
     proxies: Proxies,
     newcomers: Newcomers,
@@ -106,9 +90,7 @@ impl WorkerListener {
         match new_poll(rt, &mut listener) {
             Ok((poll, waker)) => {
                 let listener = WorkerListener {
-                    poll,
-                    pause,
-                    events,
+                    lookout: Lookout::new(poll, pause, events),
                     listener,
                     proxies: Proxies::new(),
                 };
@@ -136,82 +118,20 @@ impl WorkerLoop {
     fn new(alloc: Global, listener: WorkerListener, workers: u64) -> WorkerLoop
         requires some { 1 ≤ workers }
         requires few { workers ≤ 64 }
+        ensures { IsAttended result.connections [] }
     {
         let WorkerListener {
-            poll,
-            pause,
-            events,
+            lookout,
             listener,
             proxies,
         } = listener;
         WorkerLoop {
-            poll,
-            pause,
-            events,
-            listener,
-            accepted: 0,
-            goes_on: false,
-            is_stuck: false,
+            lookout,
+            acceptor: Acceptor::new(listener),
             proxies,
             newcomers: Newcomers::new(alloc),
             connections: Connections::new(alloc, workers),
         }
-    }
-
-    /// Notes what the last poll told of the connections, before any of them gets a turn, and says what it told of the
-    /// waker and of the listener.
-    fn note_events(&mut self) -> Readiness {
-        let mut readiness = Readiness {
-            woken: false,
-            listener: false,
-        };
-        for event in &self.events {
-            readiness.woken |= event.token() == WAKER;
-            readiness.listener |= event.token() == LISTENER;
-            self.connections.note(event);
-        }
-        readiness
-    }
-
-    /// Accepts connections, puts them into the inboxes of their workers, and wakes these.
-    fn accept<R: Wait, G: Gate>(&mut self, rt: &R, inboxes: &Inboxes, wakers: &Wakers, gate: &G) {
-        let Some(listener) = &self.listener else {
-            return;
-        };
-        self.goes_on = true;
-        for _ in 0..ACCEPTS {
-            match listener.accept() {
-                Ok((stream, address)) => {
-                    let ip = ip_of(address);
-                    match inboxes.put(rt, self.accepted, Arrival { stream, ip }) {
-                        Some(worker) => wakers.wake(worker),
-                        None => turns::tell_unserved(gate, Refusal::Busy, ip),
-                    }
-                    self.accepted = self.accepted.wrapping_add(1);
-                    self.is_stuck = false;
-                }
-                Err(error) => match error.kind() {
-                    ErrorKind::WouldBlock => {
-                        self.goes_on = false;
-                        self.is_stuck = false;
-                        return;
-                    }
-                    ErrorKind::Interrupted => {}
-                    _ => {
-                        if !self.is_stuck {
-                            gate.tell(Happening::Refused {
-                                reason: refusal_of(&error),
-                                ip: None,
-                            });
-                        }
-                        self.is_stuck = true;
-                        self.connections.hurry(PollTimeout::Short);
-                        return;
-                    }
-                },
-            }
-        }
-        self.connections.hurry(PollTimeout::Zero);
     }
 
     /// Takes the connections out of the inbox.
@@ -224,6 +144,8 @@ impl WorkerLoop {
         requires { pass.desk ≡ shared.now.desk.now }
         ensures desk { result.desk ≡ pass.desk }
         ensures number { result.worker.number ≡ pass.worker.number }
+        ensures attended { KeepsAttended self.old.connections self.new.connections }
+        ensures lookout { told self.new.lookout ≡ told self.old.lookout }
     {
         let worker = pass.number();
         let mut pass = pass;
@@ -247,8 +169,10 @@ impl WorkerLoop {
         requires { pass.desk ≡ shared.now.desk.now }
         ensures desk { result.desk ≡ pass.desk }
         ensures number { result.worker.number ≡ pass.worker.number }
+        ensures attended { KeepsAttended self.old.connections self.new.connections }
+        ensures lookout { told self.new.lookout ≡ told self.old.lookout }
     {
-        let registry = self.poll.registry();
+        let registry = self.lookout.registry();
         let connections = &mut self.connections;
         if !self.proxies.has(arrival.ip) {
             return turns::adopt(rt, shared, pass, connections, registry, arrival);
@@ -264,46 +188,74 @@ impl WorkerLoop {
         requires { pass.desk ≡ shared.now.desk.now }
         ensures desk { result.desk ≡ pass.desk }
         ensures number { result.worker.number ≡ pass.worker.number }
+        ensures attended { IsAttended self.old.connections (keys_of (told self.old.lookout))
+            → IsAttended self.new.connections [] }
     {
-        let registry = self.poll.registry();
+        let registry = self.lookout.registry();
         let connections = &mut self.connections;
         let newcomers = &mut self.newcomers;
+        let events = self.lookout.told();
         let mut pass = pass;
-        for event in &self.events {
+        for event in events {
             let token = event.token();
             pass = turns::turn_told(rt, shared, pass, connections, newcomers, registry, token);
         }
         pass
     }
 
-    /// Waits for news and goes round once.
-    fn go_round<R: Wait, G: Gate>(&mut self, rt: &R, shared: &Shared<'_, G>, pass: Pass) -> Pass
+    /// A round begins. Where the poll before it was not made, the next one waits no longer than a little.
+    fn begin_round(&mut self, is_made: bool)
+        ensures attended { KeepsAttended self.old.connections self.new.connections }
+        ensures lookout { told self.new.lookout ≡ told self.old.lookout }
+    {
+        self.connections.begin_round();
+        if !is_made {
+            self.connections.hurry(PollTimeout::Short);
+        }
+    }
+
+    /// Accepts connections where the poll told of the listener, and takes those in that wait in the inbox, and the
+    /// names of changed clients, where the worker was woken.
+    fn take_in<R: Wait, G: Gate>(
+        &mut self,
+        rt: &R,
+        shared: &Shared<'_, G>,
+        pass: Pass,
+        readiness: Readiness,
+    ) -> Pass
         requires { pass.desk ≡ shared.now.desk.now }
         ensures desk { result.desk ≡ pass.desk }
         ensures number { result.worker.number ≡ pass.worker.number }
+        ensures attended { KeepsAttended self.old.connections self.new.connections }
+        ensures lookout { told self.new.lookout ≡ told self.old.lookout }
+    {
+        let timeout = self.acceptor.accept(rt, shared, readiness.listener);
+        self.connections.hurry(timeout);
+        if !readiness.woken {
+            return pass;
+        }
+        let pass = self.look_into_inbox(rt, shared, pass);
+        turns::take_names(rt, shared, pass, &mut self.connections)
+    }
+
+    /// Waits for news and goes round once.
+    fn go_round<R: Wait, G: Gate>(&mut self, rt: &R, shared: &Shared<'_, G>, pass: Pass) -> Pass
+        requires desk { pass.desk ≡ shared.now.desk.now }
+        requires attended { IsAttended self.old.connections [] }
+        ensures desk { result.desk ≡ pass.desk }
+        ensures number { result.worker.number ≡ pass.worker.number }
+        ensures attended { IsAttended self.new.connections [] }
     {
         let pass = turns::look_for_own(rt, shared, pass, &mut self.connections);
-        let timeout = self.connections.poll_timeout().duration();
-        let polled = self.poll.poll(&mut self.events, timeout);
-        let readiness = self.note_events();
+        let is_made = self.connections.wait(&mut self.lookout);
+        let readiness = readiness_of(self.lookout.told());
         if readiness.woken {
             shared.gate.woken(pass.number());
         }
-        self.connections.begin_round();
-        if polled.is_err() {
-            self.connections.hurry(PollTimeout::Short);
-        }
-        if readiness.listener || self.goes_on {
-            self.accept(rt, shared.inboxes, shared.wakers, shared.gate);
-        }
-        let pass = if readiness.woken {
-            let pass = self.look_into_inbox(rt, shared, pass);
-            turns::take_names(rt, shared, pass, &mut self.connections)
-        } else {
-            pass
-        };
+        self.begin_round(is_made);
+        let pass = self.take_in(rt, shared, pass, readiness);
         let pass = self.turn_ready(rt, shared, pass);
-        let registry = self.poll.registry();
+        let registry = self.lookout.registry();
         let connections = &mut self.connections;
         let pass = turns::turn_named(rt, shared, pass, connections, registry);
         let pass = turns::turn_left(rt, shared, pass, connections, registry);
@@ -319,7 +271,7 @@ impl WorkerLoop {
         ensures desk { result.desk ≡ pass.desk }
         ensures number { result.worker.number ≡ pass.worker.number }
     {
-        drop(mem::replace(&mut self.listener, None));
+        self.acceptor.stop();
         shared.reserve.give_up();
         let mut pass = pass;
         for _ in 0..LAST_ROUNDS {
@@ -328,11 +280,23 @@ impl WorkerLoop {
             if !self.connections.let_all_go() && self.connections.len() == 0 {
                 return pass;
             }
-            let pause = Some(Duration::from_millis(PAUSE));
-            let _ = self.pause.poll(&mut self.events, pause);
+            self.lookout.pause(PAUSE);
         }
         step_all(rt, shared, pass, &mut self.connections, Step::Shut)
     }
+}
+
+/// What a poll told of the waker and of the listener.
+fn readiness_of(events: &[Event]) -> Readiness {
+    let mut readiness = Readiness {
+        woken: false,
+        listener: false,
+    };
+    for event in events {
+        readiness.woken |= event.token() == WAKER;
+        readiness.listener |= event.token() == LISTENER;
+    }
+    readiness
 }
 
 /// A poll with a waker, which tells of the listener too.
@@ -367,29 +331,6 @@ fn register(poll: &Poll, listener: &mut Option<TcpListener>) -> Result<Waker, Li
         return Err(ListenError::System);
     }
     Ok(waker)
-}
-
-/// The errors of the system where it has no file more for the process, or for all.
-const NO_FILE: [i32; 2] = [24, 23];
-
-/// The errors of the system where it has no memory, or none for sockets.
-const NO_MEMORY: [i32; 2] = [12, 105];
-
-/// Why the system accepts no connection, as operators are told it.
-fn refusal_of(error: &io::Error) -> Refusal {
-    match error.raw_os_error() {
-        Some(code) if NO_FILE.contains(&code) => Refusal::Files,
-        Some(code) if NO_MEMORY.contains(&code) => Refusal::Memory,
-        _ => Refusal::System,
-    }
-}
-
-/// The IPv4 address of a peer. A listener at an IPv4 address meets no other.
-fn ip_of(address: SocketAddr) -> [u8; 4] {
-    match address {
-        SocketAddr::V4(address) => address.ip().octets(),
-        SocketAddr::V6(_) => [0; 4],
-    }
 }
 
 /// Serves connections until the workers are told to stop, then ends them in order, and gives the pass back. It waits
@@ -431,7 +372,8 @@ fn go_round_until_stopped<R: Wait, G: Gate>(
     worker_loop: WorkerLoop,
     pass: Pass,
 ) -> Pass
-    requires { pass.desk ≡ shared.now.desk.now }
+    requires attended { IsAttended worker_loop.connections [] }
+    requires desk { pass.desk ≡ shared.now.desk.now }
     ensures desk { result.desk ≡ pass.desk }
     ensures number { result.worker.number ≡ pass.worker.number }
 {

@@ -3,6 +3,7 @@ use Rattle.reply_kinds.specs.declared.command_word.CommandWord.TheVariants as co
 use Rattle.reply_grammar.proofs.Dispatch.{reads_as, fails_as}
 use Rattle.reply_grammar.proofs.reading.arguments.Goals as goal
 
+-- Written by tools/protocol.py of protocol/replies.toml: answers.
 -- TasServer
 
 pub returns-in-Ok : goal.returns-in-Ok
@@ -378,3 +379,5 @@ returns-in-Ok-read_all-46 c = reads_as c.args.command command.EnableAllUnits c.a
 
 pub returns-in-Err-read_all-46 : goal.returns-in-Err-read_all-46
 returns-in-Err-read_all-46 c = fails_as c.args.command command.EnableAllUnits c.args.bytes.now c.in-Err-read_all-46.error c.in-EnableAllUnits.is c.in-Err-read_all-46.ensures
+
+-- End of what is written: answers.

@@ -1,5 +1,6 @@
 use Rattle.reply_printer.proofs.printing.put_reply.Goals as goal
 
+-- Written by tools/protocol.py of protocol/replies.toml: answers.
 pub returns-in-TasServer-clause-ok : goal.returns-in-TasServer-clause-ok
 returns-in-TasServer-clause-ok c = rw (c.in-TasServer.is) c.put_line.ensures.ok
 
@@ -275,3 +276,5 @@ returns-in-EnableAllUnits-clause-wanted c = rw (c.in-EnableAllUnits.is) c.put_li
 
 pub returns-in-BattleOpened-clause-wanted : goal.returns-in-BattleOpened-clause-wanted
 returns-in-BattleOpened-clause-wanted c = rw (c.in-BattleOpened.is) c.put_line-in-BattleOpened.ensures.wanted
+
+-- End of what is written: answers.

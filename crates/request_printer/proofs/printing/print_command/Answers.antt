@@ -3,6 +3,7 @@ use Rattle.request_printer.proofs.printing.print_command.Goals as goal
 pub returns-in-Blank-clause-wanted : goal.returns-in-Blank-clause-wanted
 returns-in-Blank-clause-wanted c = c.print_row.ensures.wanted
 
+-- Written by tools/protocol.py of protocol/commands.toml: answers.
 pub returns-in-Ping-clause-wanted : goal.returns-in-Ping-clause-wanted
 returns-in-Ping-clause-wanted c = c.print_row-in-Ping.ensures.wanted
 
@@ -110,6 +111,8 @@ returns-in-KickFromBattle-clause-wanted c = c.print_row-in-KickFromBattle.ensure
 
 pub returns-in-Ring-clause-wanted : goal.returns-in-Ring-clause-wanted
 returns-in-Ring-clause-wanted c = c.print_row-in-Ring.ensures.wanted
+
+-- End of what is written: answers.
 
 pub returns-in-Unread-clause-wanted : goal.returns-in-Unread-clause-wanted
 returns-in-Unread-clause-wanted c = λ e. absurd (let n : ⊥ = cc in n)
