@@ -25,7 +25,7 @@ GATEWAY = "gateway.sh"
 # This comes before the proofs where an earlier run left the program, and no file of the crates has changed since.
 ROWS, PLAYER = "rows.sh", ROOT / "crates/lobby_play/out/lobby_play"
 # These run the programs that the proofs left behind.
-CHECKS = [ROWS, "programs.sh", "serve.sh", "proxy.py", "log.py", "stopping.py", "record.py", "record_tool.py",
+CHECKS = [ROWS, "programs.sh", "serve.sh", "proxy.py", "wakes.py", "log.py", "stopping.py", "record.py", "record_tool.py",
           "accounts.py", "scarce.sh", "short_memory.py", "files.sh", "setup_faults.py", "package.sh", "gateway_served.sh",
           "views.sh", "memory.sh", "memory_bounds.sh", "refused_memory.sh", "library.py", "python.sh"]
 # What the proof of a crate may take from nothing, in seconds of a processor: most crates, and any. The table names each that takes more.

@@ -6,8 +6,7 @@ use Rattle.std.specs.Option.{option_to_list}
 use Rattle.std.proofs.lemmas.List.{get_or_default}
 use Rattle.std.proofs.lemmas.Bool.{cases_eq, cases_lt}
 use Rattle.std.proofs.lemmas.List.Elements.{Contains-append_cases, Contains-append_left, Contains-append_right, Contains-push}
-use Rattle.lobby_post.specs.Mask.{has_home}
-use Rattle.lobby_connections.specs.Attended.{AllBut, InLine, IsAttended, IsAttendedAtHome, IsAttendedSoFar, IsDue, IsTable, IsThere, KeepsClaims, NobodyIsForgotten, Owes, WakesNobody, key_at}
+use Rattle.lobby_connections.specs.Attended.{AllBut, InLine, IsAttended, IsDue, IsTable, IsThere, KeepsClaims, NobodyIsForgotten, Owes, WakesNobody, key_at}
 use Rattle.lobby_connections.specs.Claims.{Changes, called_up, come, gone, had_turn, left_over, note_at, noted, owing}
 use Rattle.lobby_connections.specs.Table.{IsIdle, Leaves, LinesUp, Stays, Table, due_count, next_key, stayed, touched, with_left}
 use Rattle.lobby_connections.specs.Timeouts.{StaysAwake, shorter}
@@ -405,17 +404,13 @@ wider_table t u i same bound lines awake = record {
   awake = awake;
 }
 
--- who is told apart changes, and nobody is called or to be woken who was not
-pub stays_attended : (t u : Table) (rest rest' : List ℕ) → IsAttended t rest → u.called ≡ t.called → u.to_wake ≡ t.to_wake → AllBut u rest' → IsAttended u rest'
-stays_attended t u rest rest' a c w all = record { all = all; called = c ∙ a.called; woken = λ worker. ap (λ mask. has_home mask worker) w ∙ a.woken worker }
+-- who is told apart changes, and nobody is called who was not
+pub stays_attended : (t u : Table) (rest rest' : List ℕ) → IsAttended t rest → u.called ≡ t.called → AllBut u rest' → IsAttended u rest'
+stays_attended t u rest rest' a c all = record { all = all; called = c ∙ a.called }
 
 pub lines_called : (t u : Table) (key : ℕ) (timeout : PollTimeout) → LinesUp t u key timeout → u.called ≡ t.called
 lines_called t u key timeout (inl e) = ap (λ (t : Table). t.called) e
 lines_called t u key timeout (inr e) = ap (λ (t : Table). t.called) e
-
-pub lines_wake : (t u : Table) (key : ℕ) (timeout : PollTimeout) → LinesUp t u key timeout → u.to_wake ≡ t.to_wake
-lines_wake t u key timeout (inl e) = ap (λ (t : Table). t.to_wake) e
-lines_wake t u key timeout (inr e) = ap (λ (t : Table). t.to_wake) e
 
 pub lines_count : (t u : Table) (key : ℕ) (timeout : PollTimeout) → LinesUp t u key timeout → u.count ≡ t.count
 lines_count t u key timeout (inl e) = ap (λ (t : Table). t.count) e
@@ -431,21 +426,21 @@ lines_pending t u key timeout (inr e) = ap (λ (t : Table). t.is_pending) e
 
 -- a key that owes no turn need not be told apart
 pub attends_none : (t : Table) (key : ℕ) → (Owes t key → ⊥) → (rest : List ℕ) → IsAttended t (key ∷ rest) → IsAttended t rest
-attends_none t key n rest a = stays_attended t t (key ∷ rest) rest a refl refl (owes_none t key n rest a.all)
+attends_none t key n rest a = stays_attended t t (key ∷ rest) rest a refl (owes_none t key n rest a.all)
 
 -- whoever comes is attended to
 pub came_attended : (t u v : Table) (key : ℕ) (timeout : PollTimeout) → Stays t u → u.key_bound ≡ t.key_bound → Changes t.claims u.claims key come → LinesUp u v key timeout → (rest : List ℕ) → IsAttended t rest → IsAttended v rest
 came_attended t u v key timeout e b h up rest a =
-    stays_attended t v rest rest a (lines_called u v key timeout up ∙ ap (λ (w : Table). w.called) e) (lines_wake u v key timeout up ∙ ap (λ (w : Table). w.to_wake) e) (came_all t u v key timeout e b h up rest a.all)
+    stays_attended t v rest rest a (lines_called u v key timeout up ∙ ap (λ (w : Table). w.called) e) (came_all t u v key timeout e b h up rest a.all)
 
 -- so is whoever is left over, and there is room for more
 pub left_attended : (t u : Table) (key : ℕ) (timeout : PollTimeout) → Leaves t u key timeout → (rest : List ℕ) → IsAttended t (key ∷ rest) → (AllBut t (key ∷ rest) → AllBut u rest) → IsAttended u rest
 left_attended t u key timeout e rest a all =
-    stays_attended t u (key ∷ rest) rest a (lines_called (record t { claims = u.claims }) u key timeout e) (lines_wake (record t { claims = u.claims }) u key timeout e) (all a.all)
+    stays_attended t u (key ∷ rest) rest a (lines_called (record t { claims = u.claims }) u key timeout e) (all a.all)
 
 pub room_attended : (t u : Table) → Stays t u → u.claims ≡ t.claims → t.key_bound ≤ u.key_bound → (rest : List ℕ) → IsAttended t rest → IsAttended u rest
 room_attended t u e same b rest a =
-    stays_attended t u rest rest a (ap (λ (w : Table). w.called) e) (ap (λ (w : Table). w.to_wake) e) (all_same t u (stays_lines t u e b) same rest a.all)
+    stays_attended t u rest rest a (ap (λ (w : Table). w.called) e) (all_same t u (stays_lines t u e b) same rest a.all)
 
 --- The law
 
@@ -460,14 +455,25 @@ nobody_owes t all d n l e key o =
       | inr (inr h) ↦ nobody_in key h
     ]
 
-pub is_lawful : (t : Table) (timeout : PollTimeout) → IsAttended t [] → IsIdle t ⊎ (timeout ≡ Zero) → StaysAwake t.left t.is_each_left timeout → timeout ≡ Endless → NobodyIsForgotten t
-is_lawful t timeout a (inr z) awake e = absurd (never (sym z ∙ e))
-  where
-    never : Zero ≡ Endless → ⊥
-    never h = cc h
-is_lawful t timeout a (inl idle) awake e = record {
+never_endless : Zero ≡ Endless → ⊥
+never_endless h = cc h
+
+pub is_lawful : (t : Table) (timeout : PollTimeout) → IsAttended t [] → IsIdle t ⊎ (timeout ≡ Zero) → StaysAwake t.left t.is_each_left timeout → ((timeout ≡ Zero → ⊥) → WakesNobody t) → timeout ≡ Endless → NobodyIsForgotten t
+is_lawful t timeout a (inr z) awake woken e = absurd (never_endless (sym z ∙ e))
+is_lawful t timeout a (inl idle) awake woken e = record {
   attended = nobody_owes t a.all idle.0 idle.1 (awake e).0 (awake e).1;
   asked = idle.2;
   called = a.called;
-  woken = a.woken;
+  woken = woken (λ z. never_endless (sym z ∙ e));
 }
+
+-- who is woken is no matter of the law else, and a shorter time-out keeps it
+pub is_lawful_then : (t u : Table) (most timeout : PollTimeout) → IsAttended t [] → IsIdle t ⊎ (most ≡ Zero) → StaysAwake t.left t.is_each_left most → u ≡ record t { to_wake = u.to_wake } → ((most ≡ Zero → ⊥) → WakesNobody u) → (timeout ≡ most) ⊎ (timeout ≡ Zero) → timeout ≡ Endless → NobodyIsForgotten u
+is_lawful_then t u most timeout a idle awake same woken (inr z) e = absurd (never_endless (sym z ∙ e))
+is_lawful_then t u most timeout a idle awake same woken (inl is) e =
+    let law = is_lawful (record t { to_wake = u.to_wake }) most (record { all = a.all; called = a.called }) idle awake (λ n. subst WakesNobody same (woken n)) (sym is ∙ e) in
+    subst NobodyIsForgotten (sym same) law
+
+pub wakes_then : (t : Table) (most timeout : PollTimeout) → ((most ≡ Zero → ⊥) → WakesNobody t) → (timeout ≡ most) ⊎ (timeout ≡ Zero) → (timeout ≡ Zero → ⊥) → WakesNobody t
+wakes_then t most timeout woken (inr z) n = absurd (n z)
+wakes_then t most timeout woken (inl is) n = woken (λ z. n (is ∙ z))

@@ -37,26 +37,15 @@ AllBut table rest = (key : ℕ) → Owes table key → InLine table key ⊎ Cont
 abbrev pub WakesNobody : Table → Type 0
 WakesNobody table = (worker : ℕ) → has_home table.to_wake worker ≡ false
 
--- Each who owes a turn stands in line or is named, but for these; each whom the lobby named was looked for; and nobody
--- is to be woken. A turn of a key takes it out of these, whether it was had alone or was one of several in a hold
+-- Each who owes a turn stands in line or is named, but for these, and each whom the lobby named was looked for. A turn
+-- of a key takes it out of these, whether it was had alone or was one of several in a hold
 pub record IsAttended (table : Table) (rest : List ℕ) : Type 0 where
   pub all : AllBut table rest
   pub called : table.called ≡ []
-  pub woken : WakesNobody table
 
 -- whoever is attended to stays so
 abbrev pub KeepsAttended : Table → Table → Type 0
 KeepsAttended old new = (rest : List ℕ) → IsAttended old rest → IsAttended new rest
-
--- the same as `IsAttended`, while those are still to be woken whose clients a turn touched
-pub record IsAttendedAtHome (table : Table) (rest : List ℕ) : Type 0 where
-  pub all : AllBut table rest
-  pub called : table.called ≡ []
-
--- the same, while those are still to be looked for whom the lobby named
-pub record IsAttendedSoFar (table : Table) (rest : List ℕ) : Type 0 where
-  pub all : AllBut table rest
-  pub woken : WakesNobody table
 
 -- nobody owes a turn; the lobby was asked for names and had none, or there was nobody whom it could name; each whom it
 -- named was looked for; and no other worker is to be woken

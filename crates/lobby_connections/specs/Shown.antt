@@ -14,7 +14,6 @@ shown c = record {
   left = c.left.items;
   is_each_left = c.is_each_left;
   told = c.told;
-  turn_most = c.turn_most;
   round_most = c.round_most;
   called = c.called.items;
   named = c.named.items;

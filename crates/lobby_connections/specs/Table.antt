@@ -7,9 +7,9 @@ use Rattle.lobby_connections.specs.declared.poll_timeout.PollTimeout.{PollTimeou
 use Rattle.lobby_connections.specs.declared.seat.Claim.{Claim}
 
 -- The keys of those who get a turn though nothing new comes, or that all do, and how many of them had it; the same for
--- those who come behind them; how many pieces the turns of this round told, and the most that a turn and a round tell;
--- the clients that the lobby named, the keys of those whose connections are to get a turn for it, and whether the lobby
--- may name more; the workers to be woken; how long the worker may wait before the next round; how many connections
+-- those who come behind them; how many bytes the turns of this round told, and the most that it tells; the clients
+-- that the lobby named, the keys of those whose connections are to get a turn for it, and whether the lobby may name
+-- more; the workers to be woken; how long the worker may wait before the next round; how many connections
 -- there are, what each of their keys is below, and how many more there is room for; what is noted of their turns, by
 -- their keys; and the key of each client's
 pub record Table : Type 0 where
@@ -19,7 +19,6 @@ pub record Table : Type 0 where
   pub left : List ℕ
   pub is_each_left : Bool
   pub told : ℕ
-  pub turn_most : ℕ
   pub round_most : ℕ
   pub called : List ℕ
   pub named : List ℕ

@@ -1,12 +1,12 @@
 //! The connections of a worker, and who gets the next turn.
 
 ghost use Rattle.std.specs.Prelude.{◌≡◌, ◌≢◌, ◌⊎◌, ◌↔◌, ◌+◌, ◌-◌, ◌/◌, ◌^◌, ◌<◌, ◌≤◌, ◌||◌, [], ◌∷◌, ◌++◌, true, false};
-ghost use Rattle.std.specs.Prelude.{ℕ, List, length, max, min, None, IfSome, IsTrue, OnOk, OnSome};
+ghost use Rattle.std.specs.Prelude.{ℕ, List, length, max, min, None, Some, IfSome, IsTrue, OnOk, OnSome};
 ghost use Rattle.std.specs.Option.{option_to_list};
 ghost use Rattle.lobby_post.specs.Mask.{has_home};
 ghost use Rattle.lobby_machine.specs.Shown.{dirty_at};
 ghost use Rattle.lobby_connections.specs.Attended.{AllBut, InLine, Owes, WakesNobody};
-ghost use Rattle.lobby_connections.specs.Attended.{IsAttended, IsAttendedSoFar, KeepsAttended};
+ghost use Rattle.lobby_connections.specs.Attended.{IsAttended, KeepsAttended};
 ghost use Rattle.lobby_connections.specs.Claims.{Changes, called_up, come, gone, had_turn, left_over, noted, owing};
 ghost use Rattle.lobby_connections.specs.Table.{IsIdle, Leaves, LinesUp, Stays, due_count, key_in, next_key};
 ghost use Rattle.lobby_connections.specs.Table.{stayed, touched, with_left};
@@ -33,12 +33,14 @@ use std::marker::Model;
 use std::mem;
 use std::sync::Wait;
 
-/// The most bytes that a turn tells, and one line's more, where its worker has the lobby for itself: two thousand
-/// short lines.
-const TURN: u64 = 128_000;
+/// How many bytes a turn may tell before it says no line more that may tell others: two thousand short lines.
+pub const TURN_MOST: u64 = 128_000;
 
-/// The most bytes that a round tells, and one turn's more, where its worker has the lobby for itself.
-const ROUND: u64 = 512_000;
+/// The most bytes that a round tells, and one turn's more, where no other worker tells much.
+const ROUND_MOST: u64 = 512_000;
+
+/// So many bytes are much for a round to tell.
+const MUCH: u64 = 32_000;
 
 /// The connections of a worker, each under the key that its events bear. A worker goes round again
 /// and again, and gives those a turn who are to get one: a poll told of it, it was named, it is new, or it stopped at a
@@ -57,6 +59,8 @@ pub struct Connections {
     is_pending: bool,
     // the other workers whose clients were touched, and who are still to be woken
     to_wake: Wakes,
+    // whether that was put off when the worker last looked
+    are_wakes_put_off: bool,
     // who stopped at a limit or for want of memory in the round before, or is new since then, and so gets a turn though
     // nothing new comes
     due: Vec<usize>,
@@ -75,8 +79,7 @@ pub struct Connections {
     timeout: PollTimeout,
     // how much this round told
     told: u64,
-    // the most that a turn and a round tell
-    turn_most: u64,
+    // the most that this round tells
     round_most: u64,
     // buffers for who has its turn
     buffers: Buffers,
@@ -93,6 +96,7 @@ impl Drop for Connections {
             named,
             is_pending: _,
             to_wake: _,
+            are_wakes_put_off: _,
             due,
             served: _,
             is_each_due: _,
@@ -103,7 +107,6 @@ impl Drop for Connections {
             lingering,
             timeout: _,
             told: _,
-            turn_most: _,
             round_most: _,
             buffers,
         } = self;
@@ -132,15 +135,10 @@ impl Model for Connections {
 }
 
 impl Connections {
-    /// No connection, at one of so many workers, 1 to 64, who have one lobby in turn. Together they tell as much as one
-    /// of them would alone, but for a remainder.
-    pub fn new(alloc: Global, workers: u64) -> Connections
-        requires some { 1 ≤ workers }
-        requires few { workers ≤ 64 }
+    /// No connection.
+    pub fn new(alloc: Global) -> Connections
         ensures due { (result.due ≡ []) × (result.is_each_due ≡ false) × (result.served ≡ 0) }
-        ensures told { result.told ≡ 0 }
-        ensures limits { (result.turn_most ≡ TURN / workers) × (result.round_most ≡ ROUND / workers) }
-        ensures some { (1 ≤ result.turn_most) × (result.turn_most ≤ result.round_most) }
+        ensures told { (result.told ≡ 0) × (result.round_most ≡ ROUND_MOST) }
         ensures left { (result.left ≡ []) × (result.is_each_left ≡ false) }
         ensures named { (result.named ≡ []) × (result.is_pending ≡ false) }
         ensures none { result.count ≡ 0 }
@@ -155,6 +153,7 @@ impl Connections {
             named: Vec::new(alloc),
             is_pending: false,
             to_wake: Wakes::none(),
+            are_wakes_put_off: false,
             due: Vec::new(alloc),
             served: 0,
             is_each_due: false,
@@ -165,8 +164,7 @@ impl Connections {
             lingering: Lingering::new(alloc),
             timeout: PollTimeout::Endless,
             told: 0,
-            turn_most: TURN / workers,
-            round_most: ROUND / workers,
+            round_most: ROUND_MOST,
             buffers: Buffers::new(alloc),
         }
     }
@@ -192,25 +190,31 @@ impl Connections {
         self.timeout = self.timeout.or(timeout);
     }
 
-    /// A round begins, in which nothing was told yet. Where each of those who were due had its turn, those are due who
+    /// A round begins, in which nothing was told yet, while so many workers tell much: together they tell as much as
+    /// one would alone, but each a turn's at least. Where each of those who were due had its turn, those are due who
     /// were left over, and the worker may wait as long as it likes. Else it waits no longer than it did, or it would
     /// forget whom earlier rounds left over.
-    pub fn begin_round(&mut self)
+    pub fn begin_round(&mut self, tellers: u64)
+        requires { 1 ≤ tellers }
         ensures over { due_count self.old ≤ self.old.served
-            → self.new ≡ record (with_left self.old) { timeout = PollTimeout.Endless; told = 0 } }
+            → self.new ≡ record (with_left self.old) {
+                timeout = PollTimeout.Endless; told = 0; round_most = self.new.round_most } }
         ensures goes_on { self.old.served < due_count self.old
-            → self.new ≡ record self.old { told = 0 } }
+            → self.new ≡ record self.old { told = 0; round_most = self.new.round_most } }
+        ensures share { self.new.round_most ≡ max (ROUND_MOST / tellers) TURN_MOST }
         ensures attended { KeepsAttended self.old self.new }
     {
-        self.forget_told();
+        self.begin_count(tellers);
         self.go_over();
     }
 
-    /// Nothing was told in this round yet.
-    fn forget_told(&mut self)
-        ensures { self.new ≡ record self.old { told = 0 } }
+    /// Nothing was told in this round yet, in which so many workers tell much.
+    fn begin_count(&mut self, tellers: u64)
+        requires { 1 ≤ tellers }
+        ensures { self.new ≡ record self.old { told = 0; round_most = max (ROUND_MOST / tellers) TURN_MOST } }
     {
         self.told = 0;
+        self.round_most = (ROUND_MOST / tellers).max(TURN_MOST);
         self.is_short = self.is_refused;
         self.is_refused = false;
     }
@@ -308,28 +312,28 @@ impl Connections {
         self.served < self.due()
     }
 
-    /// How many bytes a turn may tell before it says no line more that may tell others.
-    pub fn turn_most(&self) -> u64
-        ensures { result ≡ self.now.turn_most }
+    /// Whether this round told much.
+    pub fn tells_much(&self) -> bool
+        ensures { IsTrue result ↔ (MUCH ≤ self.now.told) }
     {
-        self.turn_most
+        self.told >= MUCH
     }
 
     /// How many bytes the next turn of this round may tell.
     pub fn allowance(&self) -> u64
-        ensures { result ≡ min (self.now.round_most - self.now.told) self.now.turn_most }
+        ensures { result ≡ min (self.now.round_most - self.now.told) TURN_MOST }
     {
         let left = self.round_most.saturating_sub(self.told);
-        left.min(self.turn_most)
+        left.min(TURN_MOST)
     }
 
     /// How many bytes the next turn of this round may tell where nobody else is left over: all that is left of the
     /// round, and a turn's at least.
     pub fn lone_allowance(&self) -> u64
-        ensures { result ≡ max (self.now.round_most - self.now.told) self.now.turn_most }
+        ensures { result ≡ max (self.now.round_most - self.now.told) TURN_MOST }
     {
         let left = self.round_most.saturating_sub(self.told);
-        left.max(self.turn_most)
+        left.max(TURN_MOST)
     }
 
     /// Turns of this round told so many bytes, or cost as much. The count stays at its most, 2^64 - 1.
@@ -416,6 +420,7 @@ impl Connections {
         requires { 0 < self.old.room }
         ensures rest { LinesUp (stayed self.old self.new) self.new result PollTimeout.Zero }
         ensures count { self.new.count ≡ self.old.count + 1 }
+        ensures key { key_in self.new.keys client ≡ Some result }
         ensures owes { Owes self.new result }
         ensures comes { Changes self.old.claims self.new.claims result come }
         ensures attended { KeepsAttended self.old self.new }
@@ -431,6 +436,7 @@ impl Connections {
         ensures rest { Stays self.old self.new }
         ensures count { self.new.count ≡ self.old.count + 1 }
         ensures bound { self.new.key_bound ≡ self.old.key_bound }
+        ensures key { key_in self.new.keys client ≡ Some result }
         ensures claims { Changes self.old.claims self.new.claims result come }
     {
         let mut conn = Conn::new(self.alloc, client);
@@ -644,6 +650,22 @@ impl Connections {
         wakes
     }
 
+    /// Whether others are woken behind the next round only. They are at once where the worker waits, where this was put
+    /// off before, and where nobody is left over who may touch more clients.
+    pub(crate) fn puts_off_wakes(&mut self, timeout: PollTimeout) -> bool
+        ensures zero { result ≡ true → timeout ≡ PollTimeout.Zero }
+        ensures rest { self.new ≡ self.old }
+    {
+        self.are_wakes_put_off =
+            timeout == PollTimeout::Zero && !self.are_wakes_put_off && self.has_left_over();
+        self.are_wakes_put_off
+    }
+
+    /// Whether somebody is left over for this round or the next.
+    fn has_left_over(&self) -> bool {
+        self.has_due() || self.is_each_left || !self.left.is_empty()
+    }
+
     /// Whether the lobby may name more clients, of which no other worker tells.
     pub fn is_pending(&self) -> bool
         ensures { result ≡ self.now.is_pending }
@@ -678,7 +700,7 @@ impl Connections {
         ensures pass { held.new.pass ≡ held.old.pass }
         ensures table { self.new ≡ record self.old { called = self.new.called; is_pending = self.new.is_pending } }
         ensures asked { self.new.is_pending ≡ false → dirty_at held.new.lobby home ≡ [] }
-        ensures attended { (rest : List ℕ) → IsAttended self.old rest → IsAttendedSoFar self.new rest }
+        ensures attended { (rest : List ℕ) → IsAttended self.old rest → AllBut self.new rest }
     {
         self.is_pending = !names::take_all(held, home, &mut self.called);
     }
@@ -710,6 +732,7 @@ impl Connections {
     /// The key of one who is named, and is so no more. None where nobody is.
     pub fn next_named(&mut self) -> Option<usize>
         ensures named { self.old.named ≡ self.new.named ++ option_to_list result }
+        ensures none { result ≡ None → self.old.named ≡ [] }
         ensures rest { self.new ≡ record self.old { named = self.new.named } }
         ensures attended { (rest : List ℕ) → IsAttended self.old rest
             → IsAttended self.new (option_to_list result ++ rest) }

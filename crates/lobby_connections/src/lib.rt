@@ -38,12 +38,13 @@ mod wakers;
 mod wire_link;
 
 pub use connection::Connection;
-pub use connections::Connections;
+pub use connections::{Connections, TURN_MOST};
 pub use lookout::Lookout;
 pub use names::IN_HOLD as NAMES_IN_HOLD;
 pub use newcomers::{Fronted, Newcomers};
 pub use poll_timeout::PollTimeout;
 pub use seat::Claim;
 pub use serving::Served;
+pub use waiting::Waited;
 pub use wakers::{Rung, Wakers};
 pub use wire_link::WireLink;

@@ -1,12 +1,12 @@
 //! Who gets a turn, and when a worker may wait.
 
-ghost use Rattle.std.specs.Prelude.{◌≡◌, ◌⊎◌, ◌<◌, ◌≤◌, ◌||◌, ◌∷◌, [], ℕ, List, true, IfSome};
+ghost use Rattle.std.specs.Prelude.{◌≡◌, ◌≢◌, ◌⊎◌, ◌≤◌, ◌||◌, ◌∷◌, [], ℕ, List, true, IfSome};
 ghost use Rattle.std.specs.List.{Contains};
 ghost use Rattle.lobby_post.specs.Mask.{has_home};
-ghost use Rattle.lobby_connections.specs.Attended.{AllBut, IsThere, KeepsClaims, NobodyIsForgotten, Owes};
-ghost use Rattle.lobby_connections.specs.Attended.{IsAttended, IsAttendedAtHome, IsAttendedSoFar};
+ghost use Rattle.lobby_connections.specs.Attended.{AllBut, IsAttended, IsThere, KeepsClaims, NobodyIsForgotten, Owes};
+ghost use Rattle.lobby_connections.specs.Attended.{WakesNobody};
 ghost use Rattle.lobby_connections.specs.Claims.{Changes, had_turn, note_at, noted};
-ghost use Rattle.lobby_connections.specs.Rung.{worker_count};
+ghost use Rattle.lobby_connections.specs.Rung.{IsRung};
 ghost use Rattle.lobby_connections.specs.Table.{Leaves, Stays, key_in, touched};
 ghost use Rattle.lobby_connections.specs.Told.{keys_of, told};
 
@@ -20,27 +20,61 @@ use lobby_turns::TurnState;
 use mio::Registry;
 use mio::event::Event;
 
+/// What a wait came to.
+#[derive(Drop)]
+pub struct Waited {
+    /// Whether the system made the poll.
+    pub is_polled: bool,
+    /// Whether another worker called this one since it last waited.
+    pub is_called: bool,
+    /// Whom the worker woke before it waited.
+    pub rung: Rung,
+}
+
 impl Connections {
-    /// Waits for news, and notes of whom the poll told. Who waits without end has forgotten nobody. Whether the poll
-    /// was made.
-    pub fn wait(&mut self, lookout: &mut Lookout) -> bool
+    /// Waits for news, and notes of whom the poll told. Before it waits, it wakes the other workers whose clients were
+    /// touched. Who waits without end has forgotten nobody.
+    pub fn wait(&mut self, lookout: &mut Lookout, wakers: &Wakers, home: u8) -> Waited
         requires { IsAttended self.old [] }
         ensures told { (key : ℕ) → Contains (keys_of (told lookout.new)) key
             → IsThere self.new key → Owes self.new key }
-        ensures rest { self.new ≡ record self.old { claims = self.new.claims } }
+        ensures rest { self.new ≡ record self.old { claims = self.new.claims; to_wake = self.new.to_wake } }
+        ensures rung { IsRung self.old self.new wakers.now home result.rung }
         ensures attended { IsAttended self.new (keys_of (told lookout.new)) }
     {
         let timeout = self.poll_timeout();
-        let is_made = self.wait_within(lookout, timeout);
+        let rung = self.wake_in_time(timeout, wakers, home);
+        let timeout = wakers.begin_wait(home, timeout);
+        let is_polled = self.wait_within(lookout, timeout);
+        let is_called = wakers.end_wait(home);
         self.note_all(lookout.told());
-        is_made
+        Waited {
+            is_polled,
+            is_called,
+            rung,
+        }
     }
 
-    /// Waits. This is the law of a worker: it may wait without end only where nobody is forgotten.
+    /// Waits. This is the law of a worker: it may wait only where nobody is still to be woken, and without end only
+    /// where nobody is forgotten.
     fn wait_within(&self, lookout: &mut Lookout, timeout: PollTimeout) -> bool
-        requires { timeout ≡ PollTimeout.Endless → NobodyIsForgotten self.now }
+        requires woken { timeout ≢ PollTimeout.Zero → WakesNobody self.now }
+        requires law { timeout ≡ PollTimeout.Endless → NobodyIsForgotten self.now }
     {
         lookout.wait(timeout)
+    }
+
+    /// Before the worker waits so long: wakes the other workers whose clients were touched, and says whom it woke. It
+    /// may put that off where it does not wait.
+    fn wake_in_time(&mut self, timeout: PollTimeout, wakers: &Wakers, home: u8) -> Rung
+        ensures rung { IsRung self.old self.new wakers.now home result }
+        ensures nobody { timeout ≢ PollTimeout.Zero → WakesNobody self.new }
+        ensures rest { self.new ≡ record self.old { to_wake = self.new.to_wake } }
+    {
+        if self.puts_off_wakes(timeout) {
+            return Rung::new();
+        }
+        self.wake_others(wakers, home)
     }
 
     /// Notes of whom a poll told.
@@ -74,7 +108,7 @@ impl Connections {
         ensures wakes { (worker : ℕ) → has_home self.new.to_wake worker
             ≡ (has_home self.old.to_wake worker || has_home served.wakes worker) }
         ensures attended { (rest : List ℕ) → IsAttended self.old (served.key ∷ rest)
-            → IsAttendedAtHome self.new rest }
+            → IsAttended self.new rest }
     {
         self.finish(served.key(), home, served.wakes());
         self.go_on(registry, served.key(), served.state());
@@ -116,11 +150,10 @@ impl Connections {
     }
 
     /// Wakes the other workers whose clients were touched, and says whom it woke.
-    pub fn wake_others(&mut self, wakers: &Wakers, home: u8) -> Rung
-        ensures rung { (worker : ℕ) → worker < worker_count wakers.now → worker < 64 → (worker ≡ home → ⊥)
-            → has_home self.old.to_wake worker ≡ true → Contains result worker }
+    fn wake_others(&mut self, wakers: &Wakers, home: u8) -> Rung
+        ensures rung { IsRung self.old self.new wakers.now home result }
+        ensures nobody { WakesNobody self.new }
         ensures rest { self.new ≡ record self.old { to_wake = self.new.to_wake } }
-        ensures attended { (rest : List ℕ) → IsAttendedAtHome self.old rest → IsAttended self.new rest }
     {
         let wakes = self.take_wakes();
         wakers.wake_others(home, wakes)
@@ -133,7 +166,7 @@ impl Connections {
         ensures named { (client : ℕ) → Contains self.old.called client
             → IfSome (key_in self.old.keys client) (λ key. IsThere self.new key → Owes self.new key) }
         ensures rest { self.new.is_pending ≡ self.old.is_pending }
-        ensures attended { (rest : List ℕ) → IsAttendedSoFar self.old rest → IsAttended self.new rest }
+        ensures attended { (rest : List ℕ) → AllBut self.old rest → IsAttended self.new rest }
     {
         while let Some(client) = self.next_called() {
             self.name_client(client);

@@ -9,7 +9,6 @@ pub hurried : (old new : Table) (timeout : PollTimeout) (rest : List ℕ) → ne
 hurried old new timeout rest is a = subst (λ t. IsAttended t rest) (sym is) (record {
   all = a.all;
   called = a.called;
-  woken = a.woken;
 })
 
 pub asked : (old new : Table) (pending : Bool) (rest : List ℕ) → new ≡ record old { is_pending = pending }
@@ -17,7 +16,6 @@ pub asked : (old new : Table) (pending : Bool) (rest : List ℕ) → new ≡ rec
 asked old new pending rest is a = subst (λ t. IsAttended t rest) (sym is) (record {
   all = a.all;
   called = a.called;
-  woken = a.woken;
 })
 
 pub counted : (old new : Table) (told : ℕ) (rest : List ℕ) → new ≡ record old { told = told } → IsAttended old rest
@@ -25,5 +23,4 @@ pub counted : (old new : Table) (told : ℕ) (rest : List ℕ) → new ≡ recor
 counted old new told rest is a = subst (λ t. IsAttended t rest) (sym is) (record {
   all = a.all;
   called = a.called;
-  woken = a.woken;
 })

@@ -1,7 +1,5 @@
 //! Where accepted connections wait for their workers.
 
-ghost use Rattle.std.specs.Prelude.{◌≤◌};
-
 use crossbeam_queue::ArrayQueue;
 use mio::net::TcpStream;
 use std::alloc::{AllocError, Global};
@@ -44,13 +42,6 @@ impl Inboxes {
     pub fn add(&mut self, alloc: Global) -> Result<(), AllocError> {
         self.queues.push(ArrayQueue::new(alloc, INBOX)?)?;
         Ok(())
-    }
-
-    /// How many workers have one: 1 at least, and 64 at most.
-    pub fn workers(&self) -> u64
-        ensures { (1 ≤ result) × (result ≤ 64) }
-    {
-        (self.queues.len() as u64).clamp(1, 64)
     }
 
     /// The worker that gets the connection before which so many were accepted.

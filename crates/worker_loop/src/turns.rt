@@ -10,7 +10,7 @@ use crate::inboxes::{Arrival, Inboxes};
 use crate::leaving::{go_on_from_reserve, is_leaving};
 use crate::reserve::Reserve;
 use lobby_connections::{
-    Connection, Connections, Fronted, NAMES_IN_HOLD, Newcomers, Served, Wakers,
+    Connection, Connections, Fronted, NAMES_IN_HOLD, Newcomers, Served, TURN_MOST, Wakers,
 };
 use lobby_lock::{Desk, Held, Pass};
 use lobby_machine::OpenError;
@@ -217,8 +217,8 @@ fn go_on_if_leaving<R: Wait, G: Gate>(
     }
 }
 
-/// A turn is over, in which so many writes were made: its connection goes on as it ended, and the workers are told
-/// whose clients it touched: the others by their wakers, this one, which is that of this home, by its note.
+/// A turn is over, in which so many writes were made: its connection goes on as it ended. Whose clients it touched is
+/// noted: the others are woken before this worker waits, and this one, which is that of this home, asks for names.
 fn end_turn<G: Gate>(
     shared: &Shared<'_, G>,
     connections: &mut Connections,
@@ -240,7 +240,6 @@ fn end_turn<G: Gate>(
     }
     connections.count_told(told);
     connections.count_told(writes.saturating_sub(1).saturating_mul(WRITE));
-    let _ = connections.wake_others(shared.wakers, home);
     shared.gate.after_turn(home, told);
 }
 
@@ -323,7 +322,7 @@ fn left_allowance(connections: &Connections, is_first: bool) -> u64 {
     } else if connections.due() == 1 {
         connections.lone_allowance()
     } else {
-        connections.turn_most()
+        TURN_MOST
     }
 }
 

@@ -62,7 +62,7 @@ struct WorkerLoop {
     connections: Connections,
 }
 
-/// What a poll told of the waker and of the listener.
+/// Whether the worker was woken, or called while it was at work, and what a poll told of the listener.
 #[derive(Clone, Copy)]
 struct Readiness {
     woken: bool,
@@ -114,10 +114,8 @@ impl WorkerListener {
 }
 
 impl WorkerLoop {
-    /// Without a connection yet, at one of so many workers, 1 to 64.
-    fn new(alloc: Global, listener: WorkerListener, workers: u64) -> WorkerLoop
-        requires some { 1 ≤ workers }
-        requires few { workers ≤ 64 }
+    /// Without a connection yet.
+    fn new(alloc: Global, listener: WorkerListener) -> WorkerLoop
         ensures { IsAttended result.connections [] }
     {
         let WorkerListener {
@@ -130,7 +128,7 @@ impl WorkerLoop {
             acceptor: Acceptor::new(listener),
             proxies,
             newcomers: Newcomers::new(alloc),
-            connections: Connections::new(alloc, workers),
+            connections: Connections::new(alloc),
         }
     }
 
@@ -203,13 +201,15 @@ impl WorkerLoop {
         pass
     }
 
-    /// A round begins. Where the poll before it was not made, the next one waits no longer than a little.
-    fn begin_round(&mut self, is_made: bool)
+    /// A round begins, while so many workers tell much. Where the poll before it was not made, the next one waits no
+    /// longer than a little.
+    fn begin_round(&mut self, tellers: u64, is_polled: bool)
+        requires { 1 ≤ tellers }
         ensures attended { KeepsAttended self.old.connections self.new.connections }
         ensures lookout { told self.new.lookout ≡ told self.old.lookout }
     {
-        self.connections.begin_round();
-        if !is_made {
+        self.connections.begin_round(tellers);
+        if !is_polled {
             self.connections.hurry(PollTimeout::Short);
         }
     }
@@ -247,12 +247,13 @@ impl WorkerLoop {
         ensures attended { IsAttended self.new.connections [] }
     {
         let pass = turns::look_for_own(rt, shared, pass, &mut self.connections);
-        let is_made = self.connections.wait(&mut self.lookout);
-        let readiness = readiness_of(self.lookout.told());
+        let worker = pass.number();
+        let waited = self.connections.wait(&mut self.lookout, shared.wakers, worker);
+        let readiness = readiness_of(self.lookout.told(), waited.is_called);
         if readiness.woken {
-            shared.gate.woken(pass.number());
+            shared.gate.woken(worker);
         }
-        self.begin_round(is_made);
+        self.begin_round(shared.wakers.tellers(worker), waited.is_polled);
         let pass = self.take_in(rt, shared, pass, readiness);
         let pass = self.turn_ready(rt, shared, pass);
         let registry = self.lookout.registry();
@@ -260,6 +261,7 @@ impl WorkerLoop {
         let pass = turns::turn_named(rt, shared, pass, connections, registry);
         let pass = turns::turn_left(rt, shared, pass, connections, registry);
         renew_reserve(shared, connections);
+        shared.wakers.show_telling(worker, connections.tells_much());
         pass
     }
 
@@ -286,10 +288,10 @@ impl WorkerLoop {
     }
 }
 
-/// What a poll told of the waker and of the listener.
-fn readiness_of(events: &[Event]) -> Readiness {
+/// What a poll told of the waker and of the listener, where another worker called this one or not.
+fn readiness_of(events: &[Event], is_called: bool) -> Readiness {
     let mut readiness = Readiness {
-        woken: false,
+        woken: is_called,
         listener: false,
     };
     for event in events {
@@ -362,7 +364,7 @@ pub fn run_worker<R: Wait, G: Gate>(
         reserve,
         gate,
     };
-    let worker = WorkerLoop::new(alloc, listener, inboxes.workers());
+    let worker = WorkerLoop::new(alloc, listener);
     go_round_until_stopped(rt, &shared, worker, pass)
 }
 

@@ -6,5 +6,4 @@ pub returns-then-not-renew : goal.returns-then-not-renew
 returns-then-not-renew g c rest a = subst (λ t. IsAttended t rest) (sym c.hurry.ensures) (record {
   all = a.all;
   called = a.called;
-  woken = a.woken;
 })

@@ -16,4 +16,4 @@ returns-then-self-due-clause-attended c rest a =
     let i = c.self.inside in
     let d = subst (λ t. due_count t ≤ i.served) (sym c.self.view_is) (subst (λ n. n ≤ i.served) c.due.ensures c.if-self-due.true) in
     let b = subst (λ t. IsAttended t rest) (sym c.self.view_is) a in
-    stays_attended (the_view i) _ rest rest b refl refl (over_all _ _ _ c.self.invariant d (ap (λ v. v.items) c.swap.ensures.x_after) (ap (λ v. v.items) c.swap.ensures.y_after ∙ c.clear.ensures.items) rest b.all)
+    stays_attended (the_view i) _ rest rest b refl (over_all _ _ _ c.self.invariant d (ap (λ v. v.items) c.swap.ensures.x_after) (ap (λ v. v.items) c.swap.ensures.y_after ∙ c.clear.ensures.items) rest b.all)

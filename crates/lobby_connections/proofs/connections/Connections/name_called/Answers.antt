@@ -2,7 +2,6 @@ use Rattle.std.proofs.Common.{◌≡◌, ℕ, List, [], ◌++◌, refl, sym, ◌
 use Rattle.std.specs.Prelude.{IfSome, None, Option, Some}
 use Rattle.std.specs.List.{Contains}
 use Rattle.std.proofs.lemmas.List.Elements.{Contains-push_cases}
-use Rattle.lobby_post.specs.Mask.{has_home}
 use Rattle.lobby_connections.proofs.Lines.{nobody_in}
 use Rattle.lobby_connections.specs.Attended.{AllBut, IsThere, Owes}
 use Rattle.lobby_connections.specs.Table.{Table, key_in}
@@ -13,7 +12,7 @@ if_some None P Q f h = h
 if_some (Some k) P Q f h = f k h
 
 pub loop-client-init : goal.loop-client-init
-loop-client-init c = record { named = λ client m. inl m; keys = refl; pending = refl; to_wake = refl; attended = λ rest all. all }
+loop-client-init c = record { named = λ client m. inl m; keys = refl; pending = refl; attended = λ rest all. all }
 
 pub loop-client-preserved : goal.loop-client-preserved
 loop-client-preserved c =
@@ -36,7 +35,6 @@ loop-client-preserved c =
           (i.named client m);
       keys = e.called.1 ∙ same;
       pending = e.rest.0 ∙ (ap (λ (t : Table). t.is_pending) n.rest ∙ i.pending);
-      to_wake = e.rest.1 ∙ (ap (λ (t : Table). t.to_wake) n.rest ∙ i.to_wake);
       attended = λ rest all. e.attended rest (subst (λ t. AllBut t rest) (sym n.rest) (i.attended rest all));
     }
 
@@ -56,7 +54,6 @@ pub returns-clause-attended : goal.returns-clause-attended
 returns-clause-attended c rest a =
     let n = c.next_called.ensures in
     record {
-      all = subst (λ t. AllBut t rest) (sym n.rest) (c.loop-client.invariant.attended rest a.all);
+      all = subst (λ t. AllBut t rest) (sym n.rest) (c.loop-client.invariant.attended rest a);
       called = n.nobody c.in_default.is;
-      woken = λ worker. ap (λ (t : Table). has_home t.to_wake worker) n.rest ∙ (ap (λ (m : ℕ). has_home m worker) c.loop-client.invariant.to_wake ∙ a.woken worker);
     }

@@ -10,7 +10,6 @@ invariant-loop-client l = record {
   named : (client : ℕ) → Contains l.fn.self.called client → Contains l.self.called client ⊎ IfSome (key_in l.fn.self.keys client) (λ key. IsThere l.self key → Owes l.self key);
   keys : l.self.keys ≡ l.fn.self.keys;
   pending : l.self.is_pending ≡ l.fn.self.is_pending;
-  to_wake : l.self.to_wake ≡ l.fn.self.to_wake;
   attended : (rest : List ℕ) → AllBut l.fn.self rest → AllBut l.self rest;
 }
 

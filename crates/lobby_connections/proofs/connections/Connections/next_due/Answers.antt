@@ -11,4 +11,4 @@ returns-clause-attended c rest a =
     let t = the_view c.self.inside in
     let claims = claims_of c.call_up.new.seats in
     let b = subst (λ t. IsAttended t rest) (sym c.self.view_is) a in
-    rw (c.call_up.ensures.seats.capacity, c.call_up.ensures.seats.count) (stays_attended t (passed t claims) rest (c.next_key-key.result ∷ rest) b refl refl (passed_all t claims c.next_key-key.result (c.next_key-key.ensures ∙ ap next_key (sym c.self.view_is)) c.call_up.ensures.claims rest b.all))
+    rw (c.call_up.ensures.seats.capacity, c.call_up.ensures.seats.count) (stays_attended t (passed t claims) rest (c.next_key-key.result ∷ rest) b refl (passed_all t claims c.next_key-key.result (c.next_key-key.ensures ∙ ap next_key (sym c.self.view_is)) c.call_up.ensures.claims rest b.all))

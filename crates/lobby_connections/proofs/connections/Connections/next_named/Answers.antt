@@ -11,4 +11,4 @@ returns-clause-attended c rest a =
     let b = subst (λ t. IsAttended t rest) (sym c.self.view_is) a in
     let t = the_view c.self.inside in
     let u = record t { named = c.pop.new.self.items } in
-    stays_attended t u rest (option_to_list c.pop.result ++ rest) b refl refl (popped t u c.pop.result e (λ other h. h) refl rest b.all)
+    stays_attended t u rest (option_to_list c.pop.result ++ rest) b refl (popped t u c.pop.result e (λ other h. h) refl rest b.all)

@@ -4,5 +4,4 @@ use Rattle.lobby_connections.proofs.connections.Connections.take_names.Goals as 
 
 pub returns-clause-attended : goal.returns-clause-attended
 returns-clause-attended c rest a =
-    let b = subst (λ t. IsAttended t rest) (sym c.self.view_is) a in
-    record { all = b.all; woken = b.woken }
+    let b = subst (λ t. IsAttended t rest) (sym c.self.view_is) a in b.all
