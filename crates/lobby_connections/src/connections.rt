@@ -198,7 +198,10 @@ impl Connections {
         requires { 1 ≤ tellers }
         ensures over { due_count self.old ≤ self.old.served
             → self.new ≡ record (with_left self.old) {
-                timeout = PollTimeout.Endless; told = 0; round_most = self.new.round_most } }
+              timeout = PollTimeout.Endless;
+              told = 0;
+              round_most = self.new.round_most;
+            } }
         ensures goes_on { self.old.served < due_count self.old
             → self.new ≡ record self.old { told = 0; round_most = self.new.round_most } }
         ensures share { self.new.round_most ≡ max (ROUND_MOST / tellers) TURN_MOST }
@@ -656,8 +659,9 @@ impl Connections {
         ensures zero { result ≡ true → timeout ≡ PollTimeout.Zero }
         ensures rest { self.new ≡ self.old }
     {
-        self.are_wakes_put_off =
-            timeout == PollTimeout::Zero && !self.are_wakes_put_off && self.has_left_over();
+        self.are_wakes_put_off = timeout == PollTimeout::Zero
+            && !self.are_wakes_put_off
+            && self.has_left_over();
         self.are_wakes_put_off
     }
 

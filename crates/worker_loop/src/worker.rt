@@ -248,7 +248,9 @@ impl WorkerLoop {
     {
         let pass = turns::look_for_own(rt, shared, pass, &mut self.connections);
         let worker = pass.number();
-        let waited = self.connections.wait(&mut self.lookout, shared.wakers, worker);
+        let waited = self
+            .connections
+            .wait(&mut self.lookout, shared.wakers, worker);
         let readiness = readiness_of(self.lookout.told(), waited.is_called);
         if readiness.woken {
             shared.gate.woken(worker);
