@@ -1,12 +1,12 @@
 -- What is noted of turns, where the connection of one seat changes.
-use Rattle.std.proofs.Common.{◌≡◌, ℕ, zero, suc, ◌+◌, ◌<◌, ◌≤◌, Bool, true, false, cond, List, [], ◌∷◌, length, map, set, get_or, refl, sym, ap, subst, ◌∙◌, arith}
-use Rattle.std.specs.Prelude.{Option, Some, None, is_some, count_by, slice_index_or}
+use Rattle.std.proofs.Common.{◌≡◌, ℕ, zero, suc, true, false, cond, List, [], ◌∷◌, length, map, set, get_or, refl, sym, ap, ◌∙◌}
+use Rattle.std.specs.Prelude.{Option, Some, None, is_some, count_by}
 use Rattle.std.specs.List.{filter}
 use Rattle.std.proofs.lemmas.List.Sums.{length-filter}
 use Rattle.std.specs.Borrow.{MutBor}
 use Rattle.std.specs.Option.{option_copied_mut}
-use Rattle.slab.specs.Slab.{Slab, Updates, get, slab_len, with_value}
-use Rattle.lobby_connections.specs.Claims.{Changes, KeepsNotes, Notes, SameSeats, claim_in, claims_of, come, gone, note_at, noted}
+use Rattle.slab.specs.Slab.{Slab, Updates, get, with_value}
+use Rattle.lobby_connections.specs.Claims.{Changes, KeepsNotes, Notes, claim_in, claims_of, note_at, noted}
 use Rattle.lobby_connections.specs.declared.seat.Claim.{Claim}
 use Rattle.lobby_connections.specs.declared.seat.Seat.{Seat}
 

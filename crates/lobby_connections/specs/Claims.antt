@@ -1,5 +1,5 @@
 -- What is noted of the turns of a worker's connections.
-use Rattle.std.specs.Prelude.{◌≡◌, ℕ, Bool, true, false, List, map, slice_index_or, Option, Some, None}
+use Rattle.std.specs.Prelude.{◌≡◌, ℕ, true, false, List, map, slice_index_or, Option, Some, None}
 use Rattle.slab.specs.Slab.{Slab, slab_len}
 use Rattle.lobby_connections.specs.declared.seat.Claim.{Claim}
 use Rattle.lobby_connections.specs.declared.seat.Seat.{Seat}

@@ -1,5 +1,5 @@
 use Rattle.std.proofs.Common.{◌∷◌, refl, sym, ◌∙◌, ap, subst}
-use Rattle.lobby_connections.proofs.Lines.{passed, passed_all, passed_table, stays_attended}
+use Rattle.lobby_connections.proofs.Lines.{passed, passed_all, stays_attended}
 use Rattle.lobby_connections.specs.Attended.{IsAttended}
 use Rattle.lobby_connections.specs.Claims.{claims_of}
 use Rattle.lobby_connections.specs.Table.{next_key}

@@ -1,6 +1,6 @@
 use Rattle.std.proofs.Common.{◌≡◌, ℕ, [], take}
 use Rattle.std.specs.List.{Contains}
-use Rattle.lobby_connections.specs.Attended.{AllBut, IsThere, KeepsClaims, Owes}
+use Rattle.lobby_connections.specs.Attended.{AllBut, IsThere, Owes}
 use Rattle.lobby_connections.specs.Told.{keys_of}
 use Rattle.lobby_connections.proofs.connections.Connections.note_all.Given as goal
 

@@ -1,4 +1,4 @@
-use Rattle.std.proofs.Common.{sym, ◌∙◌, ap, subst}
+use Rattle.std.proofs.Common.{sym, ◌∙◌, subst}
 use Rattle.lobby_connections.proofs.Lines.{came_attended, came_owes, lines_claims, lines_count, lines_stay}
 use Rattle.lobby_connections.specs.Claims.{Changes, come}
 use Rattle.lobby_connections.specs.declared.poll_timeout.PollTimeout.TheVariants.{Zero}

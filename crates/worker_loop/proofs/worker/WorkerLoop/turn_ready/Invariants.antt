@@ -1,6 +1,6 @@
-use Rattle.std.proofs.Common.{◌≡◌, [], drop}
+use Rattle.std.proofs.Common.{◌≡◌, drop}
 use Rattle.lobby_connections.specs.Attended.{IsAttended}
-use Rattle.lobby_connections.specs.Told.{keys_of, told}
+use Rattle.lobby_connections.specs.Told.{keys_of}
 use Rattle.worker_loop.proofs.worker.WorkerLoop.turn_ready.Given as goal
 
 abbrev pub invariant-loop-event : goal.invariant-loop-event
