@@ -2,6 +2,7 @@
 """wakes.py [PROGRAM]: counts how often workers of the server wake others by the system, and how often they poll, with the server as the
 gate built it, or another build of it. What is wanted stands here by hand: who is at work is not woken, others are woken behind each
 second round of one who says much, everything arrives all the same, and who has nothing to do does not poll."""
+import collections
 import os
 import struct
 import subprocess
@@ -19,21 +20,21 @@ ACCOUNTS = [Account(f"P{number}", number) for number in range(1, 41)]
 LINES, HEARD = 2_000, 64
 
 
+Calls = collections.namedtuple("Calls", "wakes polls sends")
+
+
 class Counts:
     """The calls that a server has made so far, in a file that it shares."""
 
     def __init__(self, folder):
         self.path = Path(folder) / "counts"
-        self.path.write_bytes(bytes(16))
+        self.path.write_bytes(bytes(24))
         library = Path(folder) / "count.so"
         subprocess.run([HERE / "build_library.sh", HERE / "count_calls.c", library], check=True)
         self.words = {"LD_PRELOAD": str(library), "COUNTED": str(self.path)}
 
-    def wakes(self):
-        return struct.unpack("=QQ", self.path.read_bytes())[0]
-
-    def polls(self):
-        return struct.unpack("=QQ", self.path.read_bytes())[1]
+    def read(self):
+        return Calls(*struct.unpack("=QQQ", self.path.read_bytes()))
 
 
 def members(server):
@@ -48,12 +49,14 @@ def members(server):
 
 
 def settle(clients):
-    """Each reads until an answer comes behind all that it was told."""
+    """Each reads until all have been answered, and then what it was told before that."""
+    for number in (1, 2):
+        for client in clients:
+            client.send(f"#{number} PING\n")
+        for client in clients:
+            while b"#%d PONG\n" % number not in client.heard:
+                client.receive()
     for client in clients:
-        client.send("#1 PING\n")
-    for client in clients:
-        while not client.heard.endswith(b"#1 PONG\n"):
-            client.receive()
         client.heard.clear()
 
 
@@ -79,8 +82,8 @@ def check_quiet(counts, server):
     for number, client in enumerate(clients):
         client.send(f"#{number} PING\n" * 20)
         client.expect(f"#{number} PONG\n" * 20)
-    if counts.wakes():
-        raise Difference(f"a worker alone was woken {counts.wakes()} times")
+    if counts.read().wakes:
+        raise Difference(f"a worker alone was woken {counts.read().wakes} times")
     check_idle(counts)
 
 
@@ -88,10 +91,11 @@ def check_idle(counts):
     """Nothing is asked of the server, and it polls no more."""
     # All that was done is over by then.
     time.sleep(0.3)
-    polls = counts.polls()
+    polls = counts.read().polls
     time.sleep(0.3)
-    if counts.polls() != polls:
-        raise Difference(f"{counts.polls() - polls} polls while nothing happens")
+    more = counts.read().polls - polls
+    if more:
+        raise Difference(f"{more} polls while nothing happens")
 
 
 def check_speakers(counts, server):
@@ -99,10 +103,12 @@ def check_speakers(counts, server):
     clients = members(server)
     for speakers in ([1], [1, 2, 3, 4]):
         time.sleep(0.1)
-        before = counts.wakes()
+        before = counts.read()
         speak(clients, speakers)
-        wakes, turns = counts.wakes() - before, len(speakers) * LINES / HEARD
-        print(f"wakes: {wakes} for {len(speakers)} speakers of {LINES} lines")
+        after = counts.read()
+        wakes, turns = after.wakes - before.wakes, len(speakers) * LINES / HEARD
+        lines = len(speakers) * LINES * len(clients) / (after.sends - before.sends)
+        print(f"wakes: {wakes} for {len(speakers)} speakers of {LINES} lines, {lines:.0f} of which go out at once")
         if wakes > 0.75 * turns * (WORKERS - 1):
             raise Difference(f"{wakes} wakes for about {turns:.0f} turns of {len(speakers)} speakers")
     check_idle(counts)
