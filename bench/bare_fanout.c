@@ -1,92 +1,134 @@
-// bare_fanout PORT [lines] : a bare epoll loop beside which the server is measured. It speaks as much of the protocol as
-// bench/load.c needs: the greeting, LOGIN with each user told of each, JOIN and SAY in one channel, and PING. One thread,
-// edge-triggered, one buffer for what each client is to get, which is written once at the end of each round of the poll;
-// with the word `lines` each line is written at once. It checks no more than it needs. gcc -O2.
-#define _GNU_SOURCE
-#include <arpa/inet.h>
-#include <errno.h>
-#include <netinet/in.h>
-#include <netinet/tcp.h>
-#include <stdbool.h>
-#include <stdint.h>
-#include <stdio.h>
-#include <stdlib.h>
-#include <string.h>
-#include <sys/epoll.h>
-#include <sys/socket.h>
-#include <unistd.h>
+// bare_fanout PORT [lines|THREADS] : a bare epoll loop beside which the server is measured. It speaks as much of the protocol as
+// the loads of this folder need: the greeting, LOGIN with each user told of each, JOIN and SAY in one channel, and PING. Edge-triggered,
+// one buffer for what each client is to get, which is written once at the end of each round of the poll; with the word `lines` each line
+// is written at once. It checks no more than it needs. So many threads (1), each with a poll of its own, have the clients in turn, and share
+// the users, the channel and the buffers under one lock; no read or write of a socket is under it. gcc -O2 -pthread.
+#include "common.h"
+#include <pthread.h>
+#include <stdatomic.h>
+#include <sys/eventfd.h>
 
-#define PASSWORD "X03MO1qnZdYdgyfeuILPmQ=="
+enum { READ_BYTES = 65536, LINE_MOST = 8192, READY_MOST = 1024, USERS_MOST = 10000, KEPT_BYTES = 32768, THREADS_MOST = 32 };
 
-enum { READ_BYTES = 65536, LINE_MOST = 8192, READY_MOST = 1024, USERS_MOST = 10000, KEPT_BYTES = 32768 };
-
-struct client {
-    int socket;
-    bool is_dirty, is_closed, is_full;
-    unsigned number;              // of its user, 0 before its login
-    char *waiting;                // what it is to get
+struct buffer {
+    char *bytes;
     size_t begin, end, room;
-    char *line;                   // a line that has not come to its end
-    size_t held;
-    struct client *next_dirty;
 };
 
-static int poll_set;
+struct client {
+    struct buffer waiting;        // what it is to get: under the lock, as the next two
+    bool is_dirty;
+    struct client *next_dirty;
+    struct thread *thread;        // which alone has what follows
+    struct buffer writing;        // what it took of what waits, where others may put more meanwhile
+    int socket;
+    bool is_closed, is_full;
+    unsigned number;              // of its user, 0 before its login
+    char *line;                   // a line that has not come to its end
+    size_t held;
+};
+
+struct thread {
+    int poll_set, waker;
+    struct client *first_dirty;   // under the lock
+    atomic_bool waits;            // in a poll without end, or on its way there: set under the lock
+} __attribute__((aligned(64)));
+
+static struct thread threads[THREADS_MOST];
+static unsigned thread_count = 1;
+static __thread struct thread *self;
+static __thread struct buffer spare;  // the last one that was taken and is written
+static __thread uint32_t to_wake;     // bits of threads
+static pthread_mutex_t mutex = PTHREAD_ADAPTIVE_MUTEX_INITIALIZER_NP;
 static bool writes_each_line;
+static struct client listener;        // which has only a socket
 static struct client *users[USERS_MOST + 1];
 static unsigned last_user;
 static struct client *members[USERS_MOST];
 static unsigned member_count;
 static char channel[64];
-static struct client *first_dirty;
 
-static void stop(const char *why) {
-    perror(why);
-    exit(1);
+static void lock(void) {
+    if (thread_count > 1) pthread_mutex_lock(&mutex);
 }
 
-// Writes what waits for a client, as much as its socket takes.
-static void flush(struct client *client) {
-    while (client->begin < client->end && !client->is_closed) {
-        ssize_t count = write(client->socket, client->waiting + client->begin, client->end - client->begin);
+// Gives the lock back, and then wakes those that wait and got something to write.
+static void unlock(void) {
+    if (thread_count == 1) return;
+    pthread_mutex_unlock(&mutex);
+    for (; to_wake != 0; to_wake &= to_wake - 1) eventfd_write(threads[__builtin_ctz(to_wake)].waker, 1);
+}
+
+// Writes what is in a buffer, as much as the client's socket takes, and tells whether that was all.
+static bool write_out(struct client *client, struct buffer *buffer) {
+    while (buffer->begin < buffer->end && !client->is_closed) {
+        ssize_t count = write(client->socket, buffer->bytes + buffer->begin, buffer->end - buffer->begin);
         if (count < 0 && errno == EINTR) continue;
         client->is_full = count < 0 && errno == EAGAIN;
-        if (client->is_full) return;
-        if (count < 0) {
-            client->is_closed = true;
-            return;
-        }
-        client->begin += (size_t)count;
+        if (client->is_full) return false;
+        if (count < 0) client->is_closed = true;
+        else buffer->begin += (size_t)count;
     }
-    client->begin = client->end = 0;
-    if (client->room > KEPT_BYTES) {
-        free(client->waiting);
-        client->waiting = NULL;
-        client->room = 0;
+    buffer->begin = buffer->end = 0;
+    if (buffer->room > KEPT_BYTES) {
+        free(buffer->bytes);
+        *buffer = (struct buffer){ 0 };
     }
+    return true;
 }
 
-static void make_room(struct client *client, size_t length) {
-    if (client->end + length <= client->room) return;
-    size_t room = client->room == 0 ? 1024 : client->room;
-    while (room < client->end + length) room *= 2;
-    client->waiting = realloc(client->waiting, room);
-    if (client->waiting == NULL) stop("no memory");
-    client->room = room;
+// Takes what waits for a client of one of the threads, and writes it behind what its socket did not take before.
+static void take_and_write(struct client *client) {
+    bool is_free = !client->is_full && write_out(client, &client->writing);
+    lock();
+    client->is_dirty = false;
+    if (is_free) {
+        free(client->writing.bytes);
+        client->writing = client->waiting;
+        client->waiting = spare;
+        spare = (struct buffer){ 0 };
+    }
+    unlock();
+    if (!is_free || !write_out(client, &client->writing)) return;
+    spare = client->writing;
+    client->writing = (struct buffer){ 0 };
 }
 
-// Has a client written to at the end of the round.
-static void note_dirty(struct client *client) {
+static void flush(struct client *client) {
+    if (thread_count > 1) {
+        take_and_write(client);
+        return;
+    }
+    client->is_dirty = false;
+    if (!client->is_full) write_out(client, &client->waiting);
+}
+
+static void make_room(struct buffer *buffer, size_t length) {
+    if (buffer->end + length <= buffer->room) return;
+    size_t room = buffer->room == 0 ? 1024 : buffer->room;
+    while (room < buffer->end + length) room *= 2;
+    buffer->bytes = realloc(buffer->bytes, room);
+    if (buffer->bytes == NULL) fail("no memory");
+    buffer->room = room;
+}
+
+// Has a client written to at the end of the round of its thread.
+static inline void note_dirty(struct client *client) {
+    struct thread *thread = client->thread;
     if (client->is_dirty) return;
     client->is_dirty = true;
-    client->next_dirty = first_dirty;
-    first_dirty = client;
+    client->next_dirty = thread->first_dirty;
+    thread->first_dirty = client;
+    if (!atomic_load_explicit(&thread->waits, memory_order_relaxed)) return;
+    atomic_store_explicit(&thread->waits, false, memory_order_relaxed);
+    to_wake |= UINT32_C(1) << (thread - threads);
 }
 
 static void put(struct client *client, const char *bytes, size_t length) {
-    make_room(client, length);
-    memcpy(client->waiting + client->end, bytes, length);
-    client->end += length;
+    struct buffer *waiting = &client->waiting;
+    make_room(waiting, length);
+    memcpy(waiting->bytes + waiting->end, bytes, length);
+    waiting->end += length;
     if (!writes_each_line) note_dirty(client);
     else if (!client->is_full) flush(client);
 }
@@ -159,7 +201,7 @@ static void hold(struct client *client, const char *bytes, size_t count) {
         return;
     }
     client->line = realloc(client->line, LINE_MOST + 1);
-    if (client->line == NULL) stop("no memory");
+    if (client->line == NULL) fail("no memory");
     memcpy(client->line + client->held, bytes, count);
     client->held += count;
 }
@@ -187,27 +229,41 @@ static void take(struct client *client, char *bytes, size_t count) {
 
 // Reads until there is no more: a read that fills less than its room took all.
 static void hear(struct client *client) {
-    static char bytes[READ_BYTES];
+    static __thread char bytes[READ_BYTES];
     ssize_t count;
     do {
         count = read(client->socket, bytes, sizeof bytes);
-        if (count > 0) take(client, bytes, (size_t)count);
-        else if (count == 0 || (errno != EAGAIN && errno != EINTR)) client->is_closed = true;
+        if (count > 0) {
+            lock();
+            take(client, bytes, (size_t)count);
+            unlock();
+        } else if (count == 0 || (errno != EAGAIN && errno != EINTR)) {
+            client->is_closed = true;
+        }
     } while (!client->is_closed && (count == READ_BYTES || (count < 0 && errno == EINTR)));
 }
 
-static void accept_all(int listener) {
+static void add_to(int poll_set, int socket, uint32_t events, void *whose) {
+    struct epoll_event event = { .events = events | EPOLLET, .data.ptr = whose };
+    if (epoll_ctl(poll_set, EPOLL_CTL_ADD, socket, &event) != 0) fail("epoll_ctl: %s", strerror(errno));
+}
+
+// Clients come to the threads in turn.
+static void accept_all(void) {
+    static unsigned accepted;
     int one = 1;
     for (;;) {
-        int socket = accept4(listener, NULL, NULL, SOCK_NONBLOCK);
+        int socket = accept4(listener.socket, NULL, NULL, SOCK_NONBLOCK);
         if (socket < 0) return;
         struct client *client = calloc(1, sizeof *client);
-        if (client == NULL) stop("no memory");
+        if (client == NULL) fail("no memory");
         client->socket = socket;
+        client->thread = &threads[accepted++ % thread_count];
         setsockopt(socket, IPPROTO_TCP, TCP_NODELAY, &one, sizeof one);
-        struct epoll_event event = { .events = EPOLLIN | EPOLLOUT | EPOLLET, .data.ptr = client };
-        if (epoll_ctl(poll_set, EPOLL_CTL_ADD, socket, &event) != 0) stop("epoll_ctl");
+        lock();
         put(client, "TASSERVER 0.38 * 8201 0\n", 24);
+        unlock();
+        add_to(client->thread->poll_set, socket, EPOLLIN | EPOLLOUT, client);
     }
 }
 
@@ -215,57 +271,84 @@ static void accept_all(int listener) {
 // before the end.
 static void drop_client(struct client *client) {
     unsigned kept = 0;
+    lock();
     for (unsigned place = 0; place < member_count; place++)
         if (members[place] != client) members[kept++] = members[place];
     member_count = kept;
     if (users[client->number] == client) users[client->number] = NULL;
-    epoll_ctl(poll_set, EPOLL_CTL_DEL, client->socket, NULL);
+    unlock();
     close(client->socket);
-    client->begin = client->end = 0;
 }
 
-static void flush_dirty(void) {
-    while (first_dirty != NULL) {
-        struct client *client = first_dirty;
-        first_dirty = client->next_dirty;
-        client->is_dirty = false;
-        if (!client->is_full) flush(client);
+// Writes to all clients of this thread that are to get something, and tells whether nobody is now. Whoever puts something for them from
+// then on wakes the thread.
+static bool flush_dirty(void) {
+    lock();
+    struct client *client = self->first_dirty;
+    self->first_dirty = NULL;
+    unlock();
+    while (client != NULL) {
+        struct client *next = client->next_dirty;
+        flush(client);
+        client = next;
     }
+    lock();
+    bool is_done = self->first_dirty == NULL;
+    atomic_store_explicit(&self->waits, is_done, memory_order_relaxed);
+    unlock();
+    return is_done;
 }
 
 static int listen_at(int port) {
     struct sockaddr_in address = { .sin_family = AF_INET, .sin_port = htons((uint16_t)port), .sin_addr.s_addr = htonl(INADDR_LOOPBACK) };
     int one = 1, listener = socket(AF_INET, SOCK_STREAM | SOCK_NONBLOCK, 0);
     setsockopt(listener, SOL_SOCKET, SO_REUSEADDR, &one, sizeof one);
-    if (listener < 0 || bind(listener, (struct sockaddr *)&address, sizeof address) != 0 || listen(listener, 1024) != 0) stop("listen");
-    struct epoll_event event = { .events = EPOLLIN | EPOLLET, .data.ptr = NULL };
-    if (epoll_ctl(poll_set, EPOLL_CTL_ADD, listener, &event) != 0) stop("epoll_ctl");
+    if (listener < 0 || bind(listener, (struct sockaddr *)&address, sizeof address) != 0 || listen(listener, 1024) != 0) fail("listen: %s", strerror(errno));
     return listener;
 }
 
-int main(int count, char **words) {
-    static struct epoll_event ready[READY_MOST];
-    poll_set = epoll_create1(0);
-    writes_each_line = count > 2 && strcmp(words[2], "lines") == 0;
-    int listener = listen_at(count > 1 ? atoi(words[1]) : 0);
-    puts("listening");
-    fflush(stdout);
+__attribute__((noreturn)) static void *work(void *thread) {
+    static __thread struct epoll_event ready[READY_MOST];
+    self = thread;
     for (;;) {
-        int news = epoll_wait(poll_set, ready, READY_MOST, -1);
+        int news = epoll_wait(self->poll_set, ready, READY_MOST, flush_dirty() ? -1 : 0);
+        atomic_store_explicit(&self->waits, false, memory_order_relaxed);
         for (int place = 0; place < news; place++) {
             struct client *client = ready[place].data.ptr;
-            if (client == NULL) {
-                accept_all(listener);
+            if (client == NULL) continue; // the waker
+            if (client == &listener) {
+                accept_all();
                 continue;
             }
             // The poll tells that a socket takes bytes each time that it tells of it.
             if ((ready[place].events & EPOLLOUT) && client->is_full) {
                 client->is_full = false;
+                lock();
                 note_dirty(client);
+                unlock();
             }
             if (ready[place].events & ~(uint32_t)EPOLLOUT) hear(client);
             if (client->is_closed) drop_client(client);
         }
-        flush_dirty();
     }
+}
+
+int main(int count, char **words) {
+    int port = (int)number_at("PORT", 1, count, words, 65535);
+    writes_each_line = count > 2 && strcmp(words[2], "lines") == 0;
+    if (count > 2 && !writes_each_line) thread_count = (unsigned)number_at("THREADS", 2, count, words, THREADS_MOST);
+    for (unsigned place = 0; place < thread_count; place++) {
+        threads[place].poll_set = epoll_create1(0);
+        threads[place].waker = eventfd(0, EFD_NONBLOCK);
+        add_to(threads[place].poll_set, threads[place].waker, EPOLLIN, NULL);
+    }
+    listener.socket = listen_at(port);
+    add_to(threads[0].poll_set, listener.socket, EPOLLIN, &listener);
+    puts("listening");
+    fflush(stdout);
+    for (unsigned place = 1; place < thread_count; place++) {
+        pthread_t thread;
+        if (pthread_create(&thread, NULL, work, &threads[place]) != 0) fail("no thread");
+    }
+    work(&threads[0]);
 }

@@ -13,27 +13,11 @@
 //   load memory PORT PID CLIENTS                                  what the server holds: before, with greeted clients, with members of a channel
 //
 // Clients log in as u0001, u0002 and so on. QUIET more are greeted, and do nothing. BYTES has a delivered line, 60 if left out. gcc -O2.
-#define _GNU_SOURCE
-#include <arpa/inet.h>
+#include "common.h"
 #include <dirent.h>
-#include <errno.h>
-#include <fcntl.h>
-#include <netinet/in.h>
-#include <netinet/tcp.h>
 #include <poll.h>
-#include <stdarg.h>
-#include <stdbool.h>
-#include <stdint.h>
-#include <stdio.h>
-#include <stdlib.h>
-#include <string.h>
-#include <sys/epoll.h>
-#include <sys/socket.h>
 #include <sys/wait.h>
-#include <time.h>
-#include <unistd.h>
 
-#define PASSWORD "X03MO1qnZdYdgyfeuILPmQ=="
 #define CHANNEL "load"
 #define GREETING "TASSERVER 0.38 * 8201 0"
 
@@ -49,8 +33,6 @@ enum {
     SAID_MOST = 8000,
     SAID_FRONT = 16,       // the bytes of a delivered line before its text
     SAY_FRONT = 9,         // the same of the line as it is spoken, which does not name the speaker
-    DEPTH_MOST = 1024,
-    BUCKETS = 1000000,     // of a tenth of a microsecond
     UNITS = 2720,
     WAITS_MOST = 100000,
     RATE_MOST = 100000,
@@ -66,12 +48,7 @@ struct client {
     unsigned members;
     unsigned char *told;     // by number, whether it was told of this user
     uint64_t bytes;          // that came since the measured time began
-    double *sent_at;         // of the unanswered PINGs, in a ring
-    uint64_t asked;
-};
-
-struct usage {
-    double at, user, system;
+    struct pings pings;
 };
 
 static struct client *clients;
@@ -84,40 +61,9 @@ static bool is_in_order;     // whether users log in one after another, in the o
 static unsigned greeted_count, in_count, told_count, settled_count;
 static size_t said_bytes, say_bytes, cycle; // of a delivered line, of the line as it is spoken, and how many different ones there are
 static char said[CYCLE_BYTES], say[CYCLE_BYTES];
-static uint32_t latencies[BUCKETS];
-static uint64_t answered, received; // received are all bytes to all clients
+static struct waits waits;
+static uint64_t received; // all bytes to all clients
 static void (*take)(struct client *, const char *, size_t);
-
-static void fail(const char *form, ...) {
-    va_list words;
-    va_start(words, form);
-    fprintf(stderr, "load: ");
-    vfprintf(stderr, form, words);
-    fprintf(stderr, "\n");
-    va_end(words);
-    exit(1);
-}
-
-static double now(void) {
-    struct timespec time;
-    clock_gettime(CLOCK_MONOTONIC, &time);
-    return (double)time.tv_sec + (double)time.tv_nsec * 1e-9;
-}
-
-// The processor time that the server has taken so far.
-static struct usage usage(void) {
-    char path[64], text[1024];
-    snprintf(path, sizeof path, "/proc/%d/stat", server);
-    FILE *file = fopen(path, "r");
-    if (file == NULL || fgets(text, sizeof text, file) == NULL) fail("no server %d", server);
-    fclose(file);
-    const char *behind_name = strrchr(text, ')');
-    unsigned long user, system;
-    if (behind_name == NULL || sscanf(behind_name + 1, " %*c %*d %*d %*d %*d %*d %*u %*u %*u %*u %*u %lu %lu", &user, &system) != 2)
-        fail("cannot read %s", path);
-    double second = (double)sysconf(_SC_CLK_TCK);
-    return (struct usage){ now(), (double)user / second, (double)system / second };
-}
 
 // The server's memory in kB that is in use now.
 static unsigned long resident(void) {
@@ -243,18 +189,8 @@ static void take_said(struct client *client, const char *bytes, size_t count) {
     }
 }
 
-static void take_pongs(struct client *client, const char *bytes, size_t count) {
-    double at = now();
-    for (size_t place = 0; place < count; place++) {
-        if (bytes[place] != "PONG\n"[client->bytes % 5]) fail("no PONG at client %u", client->number);
-        client->bytes++;
-        if (client->bytes % 5 != 0) continue;
-        uint64_t which = client->bytes / 5 - 1;
-        if (which >= client->asked) fail("a PONG too many at client %u", client->number);
-        double tenths = (at - client->sent_at[which % DEPTH_MOST]) * 1e7;
-        latencies[tenths < BUCKETS ? (size_t)tenths : BUCKETS - 1]++;
-        answered++;
-    }
+static void take_answers(struct client *client, const char *bytes, size_t count) {
+    take_pongs(&client->pings, bytes, count, &waits);
 }
 
 static void take_nothing(struct client *client, const char *bytes, size_t count) {
@@ -285,25 +221,12 @@ static void expect_silence(void) {
     pump(20);
 }
 
-// A write of few bytes, which the socket has room for.
-static void tell(const struct client *client, const char *form, ...) {
-    char text[256];
-    va_list words;
-    va_start(words, form);
-    int length = vsnprintf(text, sizeof text, form, words);
-    va_end(words);
-    if (write(client->socket, text, (size_t)length) != length) fail("client %u cannot write", client->number);
-}
-
-static void open_client(struct client *client, unsigned number, const struct sockaddr_in *address) {
-    int one = 1;
+static void open_client(struct client *client, unsigned number, int port) {
     client->number = number;
     client->told = calloc(client_count + 1, 1);
-    client->sent_at = calloc(DEPTH_MOST, sizeof *client->sent_at);
-    client->socket = socket(AF_INET, SOCK_STREAM, 0);
-    if (client->told == NULL || client->sent_at == NULL || client->socket < 0) fail("no memory or socket for client %u", number);
-    if (connect(client->socket, (const struct sockaddr *)address, sizeof *address) != 0) fail("client %u cannot connect: %s", number, strerror(errno));
-    setsockopt(client->socket, IPPROTO_TCP, TCP_NODELAY, &one, sizeof one);
+    if (client->told == NULL) fail("no memory for client %u", number);
+    make_pings(&client->pings);
+    client->socket = connect_to(port);
     fcntl(client->socket, F_SETFL, O_NONBLOCK);
     struct epoll_event event = { .events = EPOLLIN, .data.ptr = client };
     if (epoll_ctl(poll_set, EPOLL_CTL_ADD, client->socket, &event) != 0) fail("epoll_ctl: %s", strerror(errno));
@@ -311,17 +234,16 @@ static void open_client(struct client *client, unsigned number, const struct soc
 
 // Connects the clients, a hundred at a time, and waits for their greetings.
 static void open_clients(int port) {
-    struct sockaddr_in address = { .sin_family = AF_INET, .sin_port = htons((uint16_t)port), .sin_addr.s_addr = htonl(INADDR_LOOPBACK) };
     take = take_lines;
     for (unsigned place = 0; place < client_count + quiet_count; place++) {
-        open_client(&clients[place], place + 1, &address);
+        open_client(&clients[place], place + 1, port);
         if (place % 100 == 99) pump_until(&greeted_count, place + 1);
     }
     pump_until(&greeted_count, client_count + quiet_count);
 }
 
 static void log_in(const struct client *client) {
-    tell(client, "LOGIN u%04u " PASSWORD " 0 127.0.0.1 load\n", client->number);
+    tell(client->socket, "LOGIN u%04u " PASSWORD " 0 127.0.0.1 load\n", client->number);
 }
 
 // Hears a client alone, until it is in. What others are told waits in their sockets meanwhile.
@@ -353,14 +275,10 @@ static void log_all_in(bool one_after_another) {
 // Has all clients join the channel, one after another, and waits until each knows of all.
 static void join_all(void) {
     for (unsigned place = 0; place < client_count; place++) {
-        tell(&clients[place], "JOIN " CHANNEL "\n");
+        tell(clients[place].socket, "JOIN " CHANNEL "\n");
         pump_until(&clients[place].members, place + 1);
     }
     pump_until(&settled_count, client_count);
-}
-
-static void print_usage(struct usage from, struct usage to) {
-    printf(" seconds %.4f user %.2f system %.2f\n", to.at - from.at, to.user - from.user, to.system - from.system);
 }
 
 static void make_lines(size_t bytes) {
@@ -405,7 +323,7 @@ static void run_fanout(uint64_t window, double seconds, size_t bytes) {
     join_all();
     make_lines(bytes);
     take = take_said;
-    struct usage from = usage();
+    struct usage from = usage_of(server);
     while (now() < from.at + seconds) {
         lines = speaker->bytes / said_bytes + window;
         speak(speaker, &spoken, lines);
@@ -416,62 +334,41 @@ static void run_fanout(uint64_t window, double seconds, size_t bytes) {
         speak(speaker, &spoken, lines);
         pump(1);
     } while (!have_all(lines * said_bytes));
-    struct usage to = usage();
+    struct usage to = usage_of(server);
     expect_silence();
     printf("lines %lu", lines * client_count);
     print_usage(from, to);
 }
 
-static void ask(struct client *client, unsigned depth) {
-    char text[DEPTH_MOST * 5];
-    size_t length = 0;
-    double at = now();
-    while (client->asked < client->bytes / 5 + depth) {
-        memcpy(text + length, "PING\n", 5);
-        client->sent_at[client->asked % DEPTH_MOST] = at;
-        client->asked++;
-        length += 5;
-    }
-    if (length > 0 && write(client->socket, text, length) != (ssize_t)length) fail("client %u cannot write", client->number);
-}
-
-// The latency in microseconds below which such a share of the answers came.
-static double latency(double share) {
-    double wanted = share * (double)answered, seen = 0;
-    size_t place = 0;
-    while (place + 1 < BUCKETS && (seen += latencies[place]) < wanted) place++;
-    return (double)place / 10;
-}
-
 // Awaits the answers to so many PINGs in all, and tells how long they took.
 static void tell_answers(uint64_t asked, struct usage from) {
-    while (answered < asked) pump(1);
-    struct usage to = usage();
+    while (waits.count < asked) pump(1);
+    struct usage to = usage_of(server);
     expect_silence();
-    printf("answers %lu median %.1f late %.1f", answered, latency(0.5), latency(0.99));
+    printf("answers %lu median %.1f late %.1f", waits.count, wait_below(&waits, 0.5), wait_below(&waits, 0.99));
     print_usage(from, to);
 }
 
 static void run_ping(unsigned depth, double seconds) {
-    take = take_pongs;
-    struct usage from = usage();
+    take = take_answers;
+    struct usage from = usage_of(server);
     uint64_t asked = 0;
     while (now() < from.at + seconds) {
-        for (unsigned place = 0; place < client_count; place++) ask(&clients[place], depth);
+        for (unsigned place = 0; place < client_count; place++) ask(&clients[place].pings, clients[place].socket, depth);
         pump(1);
     }
-    for (unsigned place = 0; place < client_count; place++) asked += clients[place].asked;
+    for (unsigned place = 0; place < client_count; place++) asked += clients[place].pings.asked;
     tell_answers(asked, from);
 }
 
 static void run_pace(unsigned rate, double seconds) {
-    take = take_pongs;
-    struct usage from = usage();
+    take = take_answers;
+    struct usage from = usage_of(server);
     uint64_t asked = 0;
     while (now() < from.at + seconds) {
         while ((double)asked < (now() - from.at) * rate) {
             struct client *client = &clients[asked++ % client_count];
-            ask(client, (unsigned)(client->asked - client->bytes / 5) + 1);
+            ask(&client->pings, client->socket, (unsigned)(client->pings.asked - client->pings.bytes / 5) + 1);
         }
         pump(1);
     }
@@ -479,12 +376,12 @@ static void run_pace(unsigned rate, double seconds) {
 }
 
 static void run_logins(const char *how) {
-    struct usage from = usage();
+    struct usage from = usage_of(server);
     uint64_t before = received;
     log_all_in(strcmp(how, "one") == 0);
-    struct usage to = usage();
+    struct usage to = usage_of(server);
     pump_until(&told_count, client_count);
-    struct usage end = usage();
+    struct usage end = usage_of(server);
     expect_silence();
     printf("logins %u all_told %.4f bytes %lu", client_count, end.at - from.at, received - before);
     print_usage(from, to);
@@ -638,9 +535,9 @@ static void reset(struct client *client) {
 // Opens so many battles of so many members, the first of which is the founder.
 static void open_battles(unsigned count, unsigned members) {
     for (unsigned place = 0; place < count; place++) {
-        tell(&clients[members * place], "OPENBATTLE 0 0 * 8452 8 0 0 0 Spring\t105\tmap\ttitle\tgame\n");
+        tell(clients[members * place].socket, "OPENBATTLE 0 0 * 8452 8 0 0 0 Spring\t105\tmap\ttitle\tgame\n");
         pump(5);
-        for (unsigned member = 1; member < members; member++) tell(&clients[members * place + member], "JOINBATTLE %u\n", place + 1);
+        for (unsigned member = 1; member < members; member++) tell(clients[members * place + member].socket, "JOINBATTLE %u\n", place + 1);
         pump(5);
     }
 }
@@ -667,7 +564,7 @@ static void run_crowd(const char *deed, unsigned count, unsigned busy_count) {
     if (strcmp(deed, "units") == 0) open_battles(client_count, 1);
     log_in(&quiet[1]);
     for (unsigned round = 0; round < 20; round++) pump(20);
-    tell(&quiet[1], "JOIN own\n");
+    tell(quiet[1].socket, "JOIN own\n");
     watch(&asker, &quiet[0], "PING\n", "PONG");
     watch(&talker, &quiet[1], "SAY own a line\n", "SAID own ");
     char *text = malloc((size_t)(count + 1) * SAID_MOST + (size_t)count * LINE_MOST);
@@ -675,7 +572,7 @@ static void run_crowd(const char *deed, unsigned count, unsigned busy_count) {
     size_t length = resets ? (size_t)sprintf(text, "#1 PING\n") : write_deed(text, deed, count);
     crowd_bytes = crowd_lines = 0;
     for (unsigned place = 0; place < client_count; place++) clients[place].bytes = 0;
-    struct usage from = usage();
+    struct usage from = usage_of(server);
     begin_watch(&asker);
     begin_watch(&talker);
     for (unsigned round = 0; round < 2; round++) {
@@ -685,13 +582,13 @@ static void run_crowd(const char *deed, unsigned count, unsigned busy_count) {
             struct client *client = &clients[place];
             if (round == 0 && resets && place % 8 == 0 && place / 8 < count) reset(client);
             if (client->socket < 0 || (round == 0 && place >= busy_count)) continue;
-            if (round > 0) tell(client, "#2 PING\n");
+            if (round > 0) tell(client->socket, "#2 PING\n");
             else tell_all(client, text, length);
             asked++;
         }
         pump_until(&marks, asked);
     }
-    struct usage to = usage();
+    struct usage to = usage_of(server);
     struct quiet seen = end_watch(&asker), heard = end_watch(&talker);
     printf("lines %lu answers %lu mean %.2f half %.2f worst %.1f worst_busy %.1f talk %.1f", crowd_lines, seen.answers,
            seen.sum / (double)seen.answers * 1e3, seen.median * 1e3, seen.worst * 1e3, seen.worst_busy * 1e3, heard.worst * 1e3);
@@ -719,19 +616,12 @@ static void run_memory(int port) {
            (double)(greeted - before) * 1024 / client_count, (double)(joined - before) * 1024 / client_count);
 }
 
-static long number_at(int place, int count, char **words, long most) {
-    char *end = "";
-    long number = place < count ? strtol(words[place], &end, 10) : 0;
-    if (place >= count || *end != '\0' || number < 1 || number > most) fail("word %d is to be a number from 1 to %ld", place, most);
-    return number;
-}
-
 int main(int count, char **words) {
     const char *mode = count > 1 ? words[1] : "";
-    int port = (int)number_at(2, count, words, 65535);
-    server = (int)number_at(3, count, words, 1 << 30);
-    client_count = (unsigned)number_at(4, count, words, CLIENTS_MOST);
-    quiet_count = count > 7 && strcmp(words[7], "0") != 0 ? (unsigned)number_at(7, count, words, CLIENTS_MOST) : 0;
+    int port = (int)number_at("PORT", 2, count, words, 65535);
+    server = (int)number_at("PID", 3, count, words, 1 << 30);
+    client_count = (unsigned)number_at("CLIENTS", 4, count, words, CLIENTS_MOST);
+    quiet_count = count > 7 && strcmp(words[7], "0") != 0 ? (unsigned)number_at("QUIET", 7, count, words, CLIENTS_MOST) : 0;
     if (strcmp(mode, "crowd") == 0) quiet_count = 2;
     clients = calloc(client_count + quiet_count, sizeof *clients);
     poll_set = epoll_create1(0);
@@ -742,14 +632,14 @@ int main(int count, char **words) {
         run_memory(port);
         return 0;
     }
-    size_t bytes = count > 8 ? (size_t)number_at(8, count, words, SAID_MOST) : SAID_LEAST;
+    size_t bytes = count > 8 ? (size_t)number_at("BYTES", 8, count, words, SAID_MOST) : SAID_LEAST;
     if (bytes < SAID_LEAST) fail("a line has %d bytes at least", SAID_LEAST);
     open_clients(port);
-    if (strcmp(mode, "fanout") == 0) run_fanout((uint64_t)number_at(5, count, words, WINDOW_MOST), (double)number_at(6, count, words, 30), bytes);
-    else if (strcmp(mode, "ping") == 0) run_ping((unsigned)number_at(5, count, words, DEPTH_MOST), (double)number_at(6, count, words, 30));
-    else if (strcmp(mode, "pace") == 0) run_pace((unsigned)number_at(5, count, words, RATE_MOST), (double)number_at(6, count, words, 30));
-    else if (strcmp(mode, "crowd") == 0) run_crowd(words[5], (unsigned)number_at(6, count, words, 512), count > 7 ? (unsigned)number_at(7, count, words, CLIENTS_MOST) : client_count);
+    if (strcmp(mode, "fanout") == 0) run_fanout((uint64_t)number_at("WINDOW", 5, count, words, WINDOW_MOST), (double)number_at("SECONDS", 6, count, words, 30), bytes);
+    else if (strcmp(mode, "ping") == 0) run_ping((unsigned)number_at("DEPTH", 5, count, words, DEPTH_MOST), (double)number_at("SECONDS", 6, count, words, 30));
+    else if (strcmp(mode, "pace") == 0) run_pace((unsigned)number_at("RATE", 5, count, words, RATE_MOST), (double)number_at("SECONDS", 6, count, words, 30));
+    else if (strcmp(mode, "crowd") == 0) run_crowd(words[5], (unsigned)number_at("COUNT", 6, count, words, 512), count > 7 ? (unsigned)number_at("BUSY", 7, count, words, CLIENTS_MOST) : client_count);
     else if (strcmp(mode, "logins") == 0 && count > 5) run_logins(words[5]);
-    else fail("no such mode");
+    else fail("there is no mode %s", mode);
     return 0;
 }

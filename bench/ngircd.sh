@@ -27,14 +27,14 @@ stop() {
 }
 trap 'stop; rm -rf "$room"' EXIT
 
-gcc -O2 -o "$room/load" bench/channel_load.c
+gcc -O2 -pthread -o "$room/load" bench/threaded_load.c
 for number in {1..4000}; do
     printf '[[account]]\nname = "u%04d"\npassword = "X03MO1qnZdYdgyfeuILPmQ=="\nid = %d\n' "$number" "$number"
 done > "$room/accounts.toml"
 
-# launch lobby|irc PORT : becomes the server. ngircd bounds neither what a client says nor how many come from one address.
+# launch talk|irc PORT : becomes the server. ngircd bounds neither what a client says nor how many come from one address.
 launch() {
-    if [ "$1" = lobby ]; then
+    if [ "$1" = talk ]; then
         printf 'address = "127.0.0.1:%d"\nworkers = 1\nlog = "none"\n' "$2" > "$room/settings.toml"
         exec "$main" serve "$room/settings.toml" "$room/accounts.toml"
     fi
@@ -59,28 +59,28 @@ CONFIGURATION
     exec "$ngircd" --nodaemon --config "$room/ngircd.conf"
 }
 
-# measure lobby|irc MEMBERS : one run at a new server, whose figures are kept.
+# measure talk|irc MEMBERS : one run at a new server, whose figures are kept.
 measure() {
     local port=$((20000 + RANDOM % 12000))
     launch "$1" "$port" > "$room/told" 2> "$room/error" < /dev/null &
     server=$!
     for _ in {1..200}; do if (exec {it}<> "/dev/tcp/127.0.0.1/$port") 2> /dev/null; then break; fi; sleep 0.05; done
-    "$room/load" "$1" "$port" "$server" "$2" 256 "$seconds" >> "$room/$1.$2" || { tail -n 3 "$room/told" "$room/error"; exit 1; }
+    "$room/load" "$1" "$port" "$server" "$2" 256 "$seconds" 1 1 >> "$room/$1.$2" || { tail -n 3 "$room/told" "$room/error"; exit 1; }
     stop
 }
 
 median() { sort -g | awk '{ at[NR] = $1 } END { print at[int((NR + 1) / 2)] }'; }
 # costs FILE : of each run, the seconds of a processor for a million delivered lines.
-costs() { awk '{ print ($8 + $10) / $2 * 1e6 }' "$room/$1"; }
+costs() { awk '{ print ($12 + $14) / $2 * 1e6 }' "$room/$1"; }
 
 echo 'A channel in which one speaks, 256 lines on their way: seconds of a processor a million delivered lines (user + system)'
 echo '| Members | Server | ngircd | ngircd / server | Bytes of a line: server, ngircd |'
 echo '|---|---|---|---|---|'
 for members in "${sizes[@]}"; do
     for _ in $(seq 1 "$runs"); do
-        for name in lobby irc; do measure "$name" "$members"; done
+        for name in talk irc; do measure "$name" "$members"; done
     done
-    printf '| %d | %.3f | %.3f | %.1f | %d, %d |\n' "$members" "$(costs "lobby.$members" | median)" "$(costs "irc.$members" | median)" \
-        "$(paste <(costs "irc.$members") <(costs "lobby.$members") | awk '$2 > 0 { print $1 / $2 }' | median)" \
-        "$(awk 'END { print $4 }' "$room/lobby.$members")" "$(awk 'END { print $4 }' "$room/irc.$members")"
+    printf '| %d | %.3f | %.3f | %.1f | %d, %d |\n' "$members" "$(costs "talk.$members" | median)" "$(costs "irc.$members" | median)" \
+        "$(paste <(costs "irc.$members") <(costs "talk.$members") | awk '$2 > 0 { print $1 / $2 }' | median)" \
+        "$(awk 'END { print $4 }' "$room/talk.$members")" "$(awk 'END { print $4 }' "$room/irc.$members")"
 done

@@ -4,16 +4,31 @@
 # Runs the server that `make build` leaves, or the one at LOBBY_MAIN, with so many workers (1), and the bare loop with one write a
 # client and round and with one write a line: all in turn, a new process each time, so many runs (5), a measured time of so many
 # seconds (3) where a mode has one. Prints medians of the runs, and of the ratios of each turn. MODES, some of
-# "fanout lengths ping quiet crowd logins log record memory calls more", leaves the others out; "more" compares four workers with one. Two
-# others, "waits marks", run another build too, the one at LOBBY_BEFORE, and compare both in turn.
+# "fanout lengths ping quiet crowd logins log record memory calls more", leaves the others out; "more" compares four workers with one, and
+# four threads of the bare loop, which share all under one lock, with one; where LOBBY_BEFORE names another build, that too. Two others,
+# "waits marks", run the other build beside, and compare both in turn.
 set -euo pipefail
 cd "$(dirname "$0")/.."
 workers=${1:-1}
 runs=${2:-5}
 seconds=${3:-3}
-modes=${MODES:-fanout lengths ping quiet crowd logins log record memory calls more}
+all="fanout lengths ping quiet crowd logins log record memory calls more"
+modes=${MODES:-$all}
 main=${LOBBY_MAIN:-$PWD/bin/lobby_main}
 before=${LOBBY_BEFORE:-$main}
+
+# number NAME WORD MOST : refuses a word that is no number from 1 to MOST.
+number() {
+    if ! [[ $2 =~ ^[1-9][0-9]{0,3}$ ]] || [ "$2" -gt "$3" ]; then echo "$1 is to be a number from 1 to $3, not $2"; exit 1; fi
+}
+
+number WORKERS "$workers" 64
+number RUNS "$runs" 1000
+number SECONDS "$seconds" 30
+if [ $# -gt 3 ]; then echo "there is a word behind SECONDS: $4"; exit 1; fi
+for mode in $modes; do
+    case " $all waits marks " in *" $mode "*) ;; *) echo "MODES has $mode, which is none of: $all waits marks"; exit 1 ;; esac
+done
 for program in "$main" "$before"; do [ -x "$program" ] || { echo "there is no $program: make build makes bin/lobby_main"; exit 1; }; done
 ulimit -n 8192
 # As `make serve` and the unit have it.
@@ -29,8 +44,7 @@ stop() {
 }
 trap 'stop; rm -rf "$room"' EXIT
 
-gcc -O2 -o "$room/load" bench/load.c
-gcc -O2 -o "$room/bare_fanout" bench/bare_fanout.c
+for program in load threaded_load bare_fanout; do gcc -O2 -pthread -o "$room/$program" "bench/$program.c"; done
 for number in $(seq 1 2000); do
     printf '[[account]]\nname = "u%04d"\npassword = "X03MO1qnZdYdgyfeuILPmQ=="\nid = %d\n' "$number" "$number"
 done > "$room/accounts.toml"
@@ -39,8 +53,8 @@ done > "$room/accounts.toml"
 launch() {
     local count=$workers
     case $1 in
-        one) count=1 ;;
-        four) count=4 ;;
+        *one) count=1 ;;
+        *four) count=4 ;;
     esac
     printf 'address = "127.0.0.1:%d"\nworkers = %d\n' "$2" "$count" > "$room/settings.toml"
     case $1 in
@@ -50,9 +64,10 @@ launch() {
     esac
     case $1 in
         ours | silent | telling | recording | one | four) exec "$main" serve "$room/settings.toml" "$room/accounts.toml" ;;
-        before) exec "$before" serve "$room/settings.toml" "$room/accounts.toml" ;;
+        before*) exec "$before" serve "$room/settings.toml" "$room/accounts.toml" ;;
         bare) exec "$room/bare_fanout" "$2" ;;
         bare_lines) exec "$room/bare_fanout" "$2" lines ;;
+        bare_four) exec "$room/bare_fanout" "$2" 4 ;;
     esac
 }
 
@@ -78,10 +93,11 @@ start() {
 
 # measure SERVER MODE WORD.. : one run of the load at a new server, whose figures are kept.
 measure() {
-    local name=$1 mode=$2
+    local name=$1 mode=$2 load=load
     shift 2
+    case $mode in talk | pings) load=threaded_load ;; esac
     start "$name"
-    timeout 90 "$room/load" "$mode" "$port" "$server" "$@" >> "$room/$name.$mode.$1.${2:-}" || { echo "$name: the load failed at $mode $*"; exit 1; }
+    timeout 90 "$room/$load" "$mode" "$port" "$server" "$@" >> "$room/$name.$mode.$1.${2:-}" || { echo "$name: the load failed at $mode $*"; exit 1; }
     stop
 }
 
@@ -272,30 +288,58 @@ marks() {
     row "$names" "$file" 'the same: million bytes to all clients' %.1f 'of["bytes"] / 1e6'
 }
 
-# What four workers serve beside one.
+# sides SERVERS WHAT : of each server, in a row of its own, how fast lines came, at what cost and how late, in the files $file; where it has
+# four threads, also the ratios to the one before, which has one.
+sides() {
+    local name last what=$2 lines='(of["lines"] + of["answers"])' cost
+    local -A titles=([before_one]='before, 1 worker' [before_four]='before, 4 workers' [one]='server, 1 worker' [four]='server, 4 workers'
+        [bare]='bare, 1 thread' [bare_four]='bare, 4 threads')
+    cost="(of[\"user\"] + of[\"system\"]) / $lines * 1e6"
+    for name in $1; do
+        printf '| %s | %s ' "$what" "${titles[$name]}"
+        figure "| %'.0f " "$name.$file" "$lines / of[\"seconds\"]"
+        figure '| %.3f ' "$name.$file" "$cost"
+        figure '| %.0f ' "$name.$file" 'of["median"]'
+        figure '| %.0f ' "$name.$file" 'of["late"]'
+        case $name in
+            *four) echo "| $(ratio "$name.$file" "$last.$file" "$lines / of[\"seconds\"]") | $(ratio "$name.$file" "$last.$file" "$cost") |" ;;
+            *) echo '| | |' ;;
+        esac
+        last=$name
+        what=
+    done
+}
+
+# What four workers serve beside one, and what four threads of the bare loop serve beside one.
 more() {
-    local window members depth file names="four one"
-    echo 'Four workers and one, in turn: medians, and medians of the ratios of each turn'
-    echo '| | Four | One | Four / one |'
-    echo '|---|---|---|---|'
-    for window in 256 4; do
-        for members in 50 200 1000; do
-            mark "$names" fanout "$members" "$window" "$seconds"
-            row "$names" "$file" "Channel of $members, $window in flight: million delivered lines a second" %.2f 'of["lines"] / of["seconds"] / 1e6'
-            row "$names" "$file" 'the same: seconds of processors a million' %.3f "$fanout_cost"
+    local speakers window members clients depth file names="one four bare bare_four"
+    if [ -n "${LOBBY_BEFORE:-}" ]; then names="before_one before_four $names"; fi
+    echo 'Four workers and one, and the bare loop with four threads and one, in turn: medians, and medians of the ratios of each turn'
+    echo '| | | Lines a second | Seconds of processors a million | Median us | 99 % us | Four / one, of lines | Of seconds |'
+    echo '|---|---|---|---|---|---|---|---|'
+    for speakers in 1 4; do
+        for window in 4 256; do
+            for members in 50 200 1000; do
+                mark "$names" talk "$members" "$window" "$seconds" "$speakers"
+                sides "$names" "Channel of $members, speakers $speakers, $window in flight each"
+            done
         done
     done
-    for depth in 1 20; do
-        mark "$names" ping 50 "$depth" "$seconds"
-        row "$names" "$file" "PING, 50 clients, $depth in flight each: million a second" %.3f 'of["answers"] / of["seconds"] / 1e6'
-        row "$names" "$file" 'the same: seconds of processors a million' %.2f "$ping_cost"
+    for clients in 50 1000; do
+        for depth in 1 20; do
+            mark "$names" pings "$clients" "$depth" "$seconds"
+            sides "$names" "PING, $clients clients, $depth in flight each"
+        done
     done
-    for members in 50 1000; do
-        mark "$names" pace "$members" 500 "$seconds"
-        row "$names" "$file" "PING, 500 a second in all by $members clients: median us" %.1f 'of["median"]'
+    for clients in 50 1000; do
+        mark "$names" pace "$clients" 500 "$seconds"
+        sides "$names" "PING, 500 a second in all by $clients clients"
     done
-    mark "$names" logins 2000 all
-    row "$names" "$file" '2,000 logins at once: seconds until each is in' %.2f 'of["seconds"]'
+    echo
+    echo '| | Four workers | One | Four / one |'
+    echo '|---|---|---|---|'
+    mark "four one" logins 2000 all
+    row "four one" "$file" '2,000 logins at once: seconds until each is in' %.2f 'of["seconds"]'
 }
 
 logins() {
