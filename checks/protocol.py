@@ -31,6 +31,9 @@ WRONG = [
     (Command, 'who = "founder"', 'who = "nobody"', "who: 'nobody' is none of anyone, user, member, founder"),
     (Command, 'row = "status_row"\n', "", "MYSTATUS: row: it names the row "),
     (Command, 'meaning = "Leaves a channel."\n', "", "LEAVE: meaning: it is missing"),
+    (Reply, 'tells = "users"', 'tells = "all"', "ADDUSER: tells: 'all' is none of users, battles, room, "),
+    (Reply, 'tells = "users"\n', "", "ADDUSER: tells: it is missing"),
+    (Command, '"rings {rest}"', '"rings {user}"', "RING: deed: user is none of first, others, rest, title"),
     (Command, 'part = "users"', 'place = "users"', "LOGIN: place: there is no such field"),
 ]
 

@@ -15,9 +15,10 @@ from .story import tell
 FOLDER = "/var/lib/rudderraisin"
 ENDLESS = 1 << 64
 # Commands of others that name a user first.
+# Written by tools/protocol.py of protocol/commands.toml: who is named.
 NAMING = {b"JOINBATTLEACCEPT", b"JOINBATTLEDENY", b"HANDICAP", b"FORCETEAMNO", b"FORCEALLYNO", b"FORCETEAMCOLOR",
-          b"FORCESPECTATORMODE",
-          b"KICKFROMBATTLE", b"RING"}
+          b"FORCESPECTATORMODE", b"KICKFROMBATTLE", b"RING"}
+# End of what is written: who is named.
 
 
 def seconds_of(text):

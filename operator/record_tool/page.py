@@ -6,32 +6,48 @@ from . import shown
 from .room import LISTS
 from .story import PRIVATE, REFUSALS, TALK, word_of
 
-# What each command does, in words before what stands behind it.
+# What each command does. In braces is what stands behind its word: the first word, the others, all of them, or the title
+# of a battle. Where none is there, the words before the braces are all that is said.
+# Written by tools/protocol.py of protocol/commands.toml: deeds.
 DEEDS = {
-    "LOGIN": "logs in as", "PING": "pings", "EXIT": "logs out", "MYSTATUS": "sets the own status",
+    "LOGIN": "logs in as {first}",
+    "PING": "pings",
+    "EXIT": "logs out",
+    "MYSTATUS": "sets the own status",
     "CHANNELS": "asks for the channels",
-    "JOIN": "enters channel", "LEAVE": "leaves channel", "SAY": "says in channel", "SAYEX": "does in channel",
-    "SAYPRIVATE": "says in private to",
-    "OPENBATTLE": "opens a battle", "JOINBATTLE": "enters, or asks to enter, battle", "JOINBATTLEACCEPT": "lets in",
-    "JOINBATTLEDENY": "turns away",
-    "LEAVEBATTLE": "leaves the battle", "UPDATEBATTLEINFO": "changes what all are told of the battle",
+    "JOIN": "enters channel {rest}",
+    "LEAVE": "leaves channel {rest}",
+    "SAY": "says in channel {first}: {others}",
+    "SAYEX": "does in channel {first}: {others}",
+    "SAYPRIVATE": "says in private to {first}: {others}",
+    "OPENBATTLE": "opens a battle: {title}",
+    "JOINBATTLE": "enters, or asks to enter, battle {first}",
+    "JOINBATTLEACCEPT": "lets in {rest}",
+    "JOINBATTLEDENY": "turns away {first}: {others}",
+    "LEAVEBATTLE": "leaves the battle",
+    "UPDATEBATTLEINFO": "changes what all are told of the battle",
     "MYBATTLESTATUS": "sets the own battle status",
-    "SAYBATTLE": "says", "SAYBATTLEEX": "does", "ADDBOT": "adds a bot", "UPDATEBOT": "changes the bot",
-    "REMOVEBOT": "takes away the bot",
-    "ADDSTARTRECT": "sets the start rectangle of ally team",
-    "REMOVESTARTRECT": "takes away the start rectangle of ally team",
-    "SETSCRIPTTAGS": "sets script tags", "REMOVESCRIPTTAGS": "takes away script tags", "DISABLEUNITS": "disables units",
-    "ENABLEUNITS": "enables units", "ENABLEALLUNITS": "enables all units", "HANDICAP": "sets the handicap of",
-    "FORCETEAMNO": "sets the team of",
-    "FORCEALLYNO": "sets the ally team of", "FORCETEAMCOLOR": "sets the colour of",
-    "FORCESPECTATORMODE": "makes a spectator of",
-    "KICKFROMBATTLE": "kicks", "RING": "rings"}
-# Of these the numbers behind them say nothing to people; what changed says it.
-WORDS_ALONE = {"MYSTATUS", "MYBATTLESTATUS", "PING", "CHANNELS", "ENABLEALLUNITS", "LEAVEBATTLE", "EXIT",
-               "UPDATEBATTLEINFO"}
-FIRST_ALONE = {"LOGIN", "JOINBATTLE", "ADDBOT", "UPDATEBOT", "FORCETEAMCOLOR"}
-FIRST_TO_SECOND = {"HANDICAP", "FORCETEAMNO", "FORCEALLYNO"}
-SAID_OF_NAME = {"SAY", "SAYEX", "SAYPRIVATE", "JOINBATTLEDENY"}
+    "SAYBATTLE": "says: {rest}",
+    "SAYBATTLEEX": "does: {rest}",
+    "ADDBOT": "adds a bot {first}",
+    "UPDATEBOT": "changes the bot {first}",
+    "REMOVEBOT": "takes away the bot {rest}",
+    "ADDSTARTRECT": "sets the start rectangle of ally team {rest}",
+    "REMOVESTARTRECT": "takes away the start rectangle of ally team {rest}",
+    "SETSCRIPTTAGS": "sets script tags {rest}",
+    "REMOVESCRIPTTAGS": "takes away script tags {rest}",
+    "DISABLEUNITS": "disables units {rest}",
+    "ENABLEUNITS": "enables units {rest}",
+    "ENABLEALLUNITS": "enables all units",
+    "HANDICAP": "sets the handicap of {first} to {others}",
+    "FORCETEAMNO": "sets the team of {first} to {others}",
+    "FORCEALLYNO": "sets the ally team of {first} to {others}",
+    "FORCETEAMCOLOR": "sets the colour of {first}",
+    "FORCESPECTATORMODE": "makes a spectator of {rest}",
+    "KICKFROMBATTLE": "kicks {rest}",
+    "RING": "rings {rest}",
+}
+# End of what is written: deeds.
 # A list that has more is shown where it changed; elsewhere a link leads there.
 LONG = 12
 # The most lines that the player was told at one place which a page shows.
@@ -97,20 +113,14 @@ def value(key, it):
     return said(it) if isinstance(it, bytes) else html.escape(str(it))
 
 
-def behind(word, rest):
-    """What stands behind the words of a deed."""
+def deed(word, rest):
+    """What a command with this behind it does."""
+    words = DEEDS[word]
     first, _, others = rest.partition(b" ")
-    if word in WORDS_ALONE or not rest:
-        return ""
-    if word in FIRST_ALONE:
-        return f" {name(first)}"
-    if word in FIRST_TO_SECOND:
-        return f" {name(first)} to {said(others)}"
-    if word in SAID_OF_NAME:
-        return f" {name(first)}: {said(others)}"
-    if word == "OPENBATTLE":
-        return f": {said(rest.split(TAB)[3])}" if rest.count(TAB) > 3 else ""
-    return f"{':' if word in ('SAYBATTLE', 'SAYBATTLEEX') else ''} {said(rest)}"
+    sentences = rest.split(TAB)
+    if not rest or ("{title}" in words and not sentences[4:]):
+        return re.sub(r":? \{.*", "", words)
+    return words.format(first=name(first), others=said(others), rest=said(rest), title=said(b"".join(sentences[3:4])))
 
 
 class Page:
@@ -133,7 +143,7 @@ class Page:
             return f"{actor} {'connects' if it.line.verb == b'open' else 'is gone: the connection ended'}"
         if word not in DEEDS or (word == "JOIN" and rest in (b"", b"?")):
             return f"{actor} sends a line that is no command"
-        return f"{actor} {DEEDS[word]}{behind(word, shown.without_secrets(command, rest))}"
+        return f"{actor} {deed(word, shown.without_secrets(command, rest))}"
 
     def change(self, it):
         """One thing that came, went or is another."""

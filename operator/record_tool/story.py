@@ -8,19 +8,20 @@ from .room import changes, read_view
 ROOMS = 3_000
 # The most lines of the record that one story is made of.
 LINES = 1_000_000
-# Lines behind which the room may be another.
-ROOM_LINES = {b"OPENBATTLE", b"JOINBATTLE", b"JOINEDBATTLE", b"LEFTBATTLE", b"BATTLECLOSED", b"UPDATEBATTLEINFO",
-              b"CLIENTBATTLESTATUS", b"ADDBOT",
-              b"UPDATEBOT", b"REMOVEBOT", b"ADDSTARTRECT", b"REMOVESTARTRECT", b"SETSCRIPTTAGS", b"REMOVESCRIPTTAGS",
-              b"DISABLEUNITS",
-              b"ENABLEUNITS", b"ENABLEALLUNITS", b"FORCEQUITBATTLE"}
-# Those of them that all users are told, of each battle, whose number is their first argument.
-OF_ANY_BATTLE = {b"JOINEDBATTLE", b"LEFTBATTLE", b"BATTLECLOSED", b"UPDATEBATTLEINFO"}
-TALK = {b"SAIDBATTLE", b"SAIDBATTLEEX", b"SAID", b"SAIDEX"}
+# What the lines of the server tell of. Those of battles come of each battle, whose number is their first argument.
+# Written by tools/protocol.py of protocol/replies.toml: what lines tell of.
+OF_USERS = {b"ADDUSER", b"REMOVEUSER", b"CLIENTSTATUS"}
+OF_BATTLES = {b"BATTLEOPENED", b"BATTLECLOSED", b"JOINEDBATTLE", b"LEFTBATTLE", b"UPDATEBATTLEINFO"}
+OF_ROOM = {b"OPENBATTLE", b"JOINBATTLE", b"CLIENTBATTLESTATUS", b"ADDBOT", b"UPDATEBOT", b"REMOVEBOT", b"ADDSTARTRECT",
+           b"REMOVESTARTRECT", b"SETSCRIPTTAGS", b"REMOVESCRIPTTAGS", b"DISABLEUNITS", b"ENABLEUNITS",
+           b"ENABLEALLUNITS", b"FORCEQUITBATTLE"}
+OF_CHANNEL = {b"JOINED", b"LEFT"}
+TALK = {b"SAID", b"SAIDEX", b"SAIDBATTLE", b"SAIDBATTLEEX"}
 PRIVATE = {b"SAYPRIVATE", b"SAIDPRIVATE"}
-REFUSALS = {b"SERVERMSG", b"DENIED", b"JOINFAILED", b"OPENBATTLEFAILED", b"JOINBATTLEFAILED"}
+REFUSALS = {b"DENIED", b"SERVERMSG", b"JOINFAILED", b"OPENBATTLEFAILED", b"JOINBATTLEFAILED"}
+# End of what is written: what lines tell of.
 # What is told of others, and is no part of a story.
-OF_OTHERS = {b"ADDUSER", b"REMOVEUSER", b"CLIENTSTATUS", b"BATTLEOPENED", b"PONG", b"JOINED", b"LEFT"}
+OF_OTHERS = OF_USERS | OF_BATTLES | OF_CHANNEL | {b"PONG"}
 
 
 class Happening:
@@ -59,7 +60,7 @@ def touches_room(told, own):
     """Whether a line may change the room, by the battle that the player is in; and that battle behind it."""
     word, _, rest = re.sub(rb"^#\d+ ", b"", told).partition(b" ")
     number = rest.partition(b" ")[0]
-    if word not in ROOM_LINES or (word in OF_ANY_BATTLE and number != own):
+    if word not in OF_ROOM and (word not in OF_BATTLES or number != own):
         return False, own
     if word in (b"OPENBATTLE", b"JOINBATTLE"):
         return True, number
@@ -118,7 +119,7 @@ def is_of_others(it, session):
         return False
     if it.line.client == session.client and it.line.command()[0] != b"PING":
         return False
-    return it.words() <= OF_OTHERS | OF_ANY_BATTLE
+    return it.words() <= OF_OTHERS
 
 
 def tell(record, sessions, session, begin, end, has_private):

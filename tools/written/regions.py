@@ -1,5 +1,5 @@
 """All regions that are written, by file."""
-from . import checks, code, definitions, package, page, proofs
+from . import checks, code, definitions, package, page, proofs, record_tool
 from .fences import Region
 
 
@@ -46,6 +46,9 @@ REGIONS = [
     Region("include/lobby.h", "kinds of requests", "commands", package.header_requests, 4),
     Region("python/rudderraisin/reply.py", "classes", "replies", package.reply_classes),
     Region("python/rudderraisin/request.py", "classes", "commands", package.request_classes),
+    Region("operator/record_tool/page.py", "deeds", "commands", record_tool.deeds),
+    Region("operator/record_tool/commands.py", "who is named", "commands", record_tool.naming),
+    Region("operator/record_tool/story.py", "what lines tell of", "replies", record_tool.told),
     Region("docs/PROTOCOL.md", "commands", "commands", page.commands),
     Region("docs/PROTOCOL.md", "replies", "replies", page.replies),
     Region("python/tests/test_reply.py", "lines", "replies", checks.tested_replies),

@@ -8,6 +8,10 @@ from pathlib import Path
 ROOT = Path(__file__).resolve().parents[2]
 WHO = ("anyone", "user", "member", "founder")
 PARTS = ("users", "battles", "rooms", "hosts")
+# What a reply may tell of.
+TELLS = ("users", "battles", "room", "channel", "talk", "private talk", "refusal", "own")
+# What the words of a deed may have in braces.
+BEHIND = {"first", "others", "rest", "title"}
 # The faults of a line, in the order in which docs/PROTOCOL.md has them.
 FAULTS = ("unknown command", "missing argument", "bad number", "bad name", "bad byte", "bad pair")
 RANGES = {"u32": (0, 4294967295), "wide": (-2147483648, 4294967295)}
@@ -118,6 +122,7 @@ class Command(Line):
     """A command of a client."""
 
     who: str = ""               # may say it: one of WHO
+    deed: str = ""              # what it does, as lobby_record says it of a user
     part: str = ""              # of the code's table: one of PARTS
     row: str = "[]"             # the name of its row of kinds, in Table.antt
     reader: str = ""            # what reads that row, where no other command has it
@@ -133,6 +138,8 @@ class Command(Line):
 @dataclass
 class Reply(Line):
     """A line of the server."""
+
+    tells: str = ""             # of what: one of TELLS
 
     FILE = "protocol/replies.toml"
     KEY = "reply"
@@ -182,8 +189,8 @@ class Table:
                 raise self.fault(at, word, name, "there is no such field")
             if not isinstance(value, wanted[name]):
                 raise self.fault(at, word, name, f"{value!r} is no {wanted[name].__name__}")
-        needed = ("number", "word", "variant", "meaning", "good") + (("who", "part") if self.kind is Command else ())
-        for name in needed:
+        own = ("who", "part", "deed") if self.kind is Command else ("tells",)
+        for name in ("number", "word", "variant", "meaning", "good", *own):
             if name not in given:
                 raise self.fault(at, word, name, "it is missing")
         made = self.kind(**given, at=at)
@@ -208,13 +215,25 @@ class Table:
                 raise self.fault(it.at, it.word, "variant", f"{it.variant} is not {it.word} in other letters")
         if self.kind is Command:
             self.check_commands()
+        else:
+            self.check_replies()
+
+    def check_one_of(self, it, name, known):
+        if getattr(it, name) not in known:
+            raise self.fault(it.at, it.word, name, f"{getattr(it, name)!r} is none of {', '.join(known)}")
+
+    def check_replies(self):
+        for it in self.lines:
+            self.check_one_of(it, "tells", TELLS)
 
     def check_commands(self):
         last = PARTS[0]
         for it in self.numbered():
-            for name, known in (("who", WHO), ("part", PARTS)):
-                if getattr(it, name) not in known:
-                    raise self.fault(it.at, it.word, name, f"{getattr(it, name)!r} is none of {', '.join(known)}")
+            self.check_one_of(it, "who", WHO)
+            self.check_one_of(it, "part", PARTS)
+            unknown = {*re.findall(r"\{(.*?)\}", it.deed)} - BEHIND
+            if unknown:
+                raise self.fault(it.at, it.word, "deed", f"{', '.join(unknown)} is none of {', '.join(sorted(BEHIND))}")
             if PARTS.index(it.part) < PARTS.index(last):
                 raise self.fault(it.at, it.word, "part", f"a lower number is of {last}, which come behind {it.part}")
             last = it.part
