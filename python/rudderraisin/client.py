@@ -35,7 +35,9 @@ FIRST_ID = 1 << 30          # the first message id of `ask`; smaller ones are th
 LAST_ID = 2_147_483_647
 
 # One of these in an answer refuses what was asked.
+# Written by tools/protocol.py of protocol/replies.toml: refusals.
 REFUSALS = (reply.DENIED, reply.SERVERMSG, reply.JOINFAILED, reply.OPENBATTLEFAILED, reply.JOINBATTLEFAILED)
+# End of what is written: refusals.
 
 
 class Refused(LobbyError):

@@ -2,6 +2,7 @@
 their values."""
 import textwrap
 
+from .layout import quoted, wrapped
 from .lines import parted, printed, values
 
 # The commands that bench/lines.rs reads in full.
@@ -35,12 +36,6 @@ def text_of(line):
     return line.encode("latin-1").decode("utf-8", "surrogateescape")
 
 
-def quoted(text):
-    """A text of Python in double quotes."""
-    shown = {'"': '\\"', "\\": "\\\\", "\t": "\\t", "\r": "\\r", "\n": "\\n", "\0": "\\x00"}
-    return '"' + "".join(shown.get(it) or (it if it.isprintable() else f"\\u{ord(it):04x}") for it in text) + '"'
-
-
 def bytes_of(line):
     """A line as bytes of Python."""
     shown = {'"': '\\"', "\\": "\\\\", "\t": "\\t", "\r": "\\r", "\n": "\\n"}
@@ -55,21 +50,6 @@ def lines_of(it):
         read = values(it.kept, rest)
         found[word + printed(it.kept, read)] = read
     return found.items()
-
-
-def wrapped(begin, parts, end, indent):
-    """Parts in one line, or in several that begin below one another."""
-    pad = " " * indent
-    whole = f"{begin}{', '.join(parts)}{end}"
-    if len(whole) <= 120:
-        return [whole]
-    lines, line = [], begin
-    for at, part in enumerate(parts):
-        part += "," if at + 1 < len(parts) else end
-        if line != begin and line != pad and len(line) + 1 + len(part) > 120:
-            lines, line = [*lines, line], pad
-        line += part if line in (begin, pad) else f" {part}"
-    return [*lines, line]
 
 
 def fields(arguments, found):

@@ -26,3 +26,24 @@ def literal(line):
     """A line as a literal of bytes in Rust: its characters are its bytes."""
     shown = {"\t": "\\t", "\r": "\\r", "\n": "\\n", '"': '\\"', "\\": "\\\\"}
     return 'b"' + "".join(shown.get(it) or (it if " " <= it <= "~" else f"\\x{ord(it):02X}") for it in line) + '"'
+
+
+def quoted(text):
+    """A text of Python in double quotes."""
+    shown = {'"': '\\"', "\\": "\\\\", "\t": "\\t", "\r": "\\r", "\n": "\\n", "\0": "\\x00"}
+    return '"' + "".join(shown.get(it) or (it if it.isprintable() else f"\\u{ord(it):04x}") for it in text) + '"'
+
+
+def wrapped(begin, parts, end, indent):
+    """Parts in one line, or in several that begin below one another."""
+    pad = " " * indent
+    whole = f"{begin}{', '.join(parts)}{end}"
+    if len(whole) <= 120:
+        return [whole]
+    lines, line = [], begin
+    for at, part in enumerate(parts):
+        part += "," if at + 1 < len(parts) else end
+        if line != begin and line != pad and len(line) + 1 + len(part) > 120:
+            lines, line = [*lines, line], pad
+        line += part if line in (begin, pad) else f" {part}"
+    return [*lines, line]

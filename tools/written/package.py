@@ -1,5 +1,6 @@
 """What is written for programs that use the library: the numbers of include/lobby.h, and the classes of the Python
-package."""
+package, with lists of those that tell all users something and of those that refuse."""
+from .layout import wrapped
 
 PYTHON = {
     "word": "Word", "name": "Name", "u32": "U32", "wide": "Wide", "0..65535": "U16", "sentence": "Sentence",
@@ -52,3 +53,17 @@ def reply_classes(tables):
 
 def request_classes(tables):
     return classes(tables.commands.numbered(), "Request")
+
+
+def tuple_of(name, tables, *tells):
+    """The classes of the replies that tell of this."""
+    begin = f"{name} = ("
+    return wrapped(begin, [f"reply.{it.word}" for it in tables.replies.lines if it.tells in tells], ")", len(begin))
+
+
+def told_to_all(tables):
+    return tuple_of("TOLD", tables, "users", "battles")
+
+
+def refusals(tables):
+    return tuple_of("REFUSALS", tables, "refusal")

@@ -1,6 +1,6 @@
 """What is written into lobby_record: what a page says of each command, which commands name a user, and what each line of
 the server tells of."""
-from .checks import quoted, wrapped
+from .layout import quoted, wrapped
 
 # The set of each value of the field `tells`; what a line tells its recipient alone is in none.
 SETS = {"users": "OF_USERS", "battles": "OF_BATTLES", "room": "OF_ROOM", "channel": "OF_CHANNEL", "talk": "TALK",

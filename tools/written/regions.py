@@ -46,6 +46,8 @@ REGIONS = [
     Region("include/lobby.h", "kinds of requests", "commands", package.header_requests, 4),
     Region("python/rudderraisin/reply.py", "classes", "replies", package.reply_classes),
     Region("python/rudderraisin/request.py", "classes", "commands", package.request_classes),
+    Region("python/rudderraisin/client.py", "refusals", "replies", package.refusals),
+    Region("python/rudderraisin/page/observer.py", "what all are told", "replies", package.told_to_all),
     Region("operator/record_tool/page.py", "deeds", "commands", record_tool.deeds),
     Region("operator/record_tool/commands.py", "who is named", "commands", record_tool.naming),
     Region("operator/record_tool/story.py", "what lines tell of", "replies", record_tool.told),

@@ -20,10 +20,13 @@ PARTING = 2.0           # seconds that the end of a connection may take where th
 WAITS = (1.0, 30.0)     # seconds to the next try behind the first end of a connection, and at most
 STEADY = 60.0           # a connection that lasted so many seconds makes the next wait the first one again
 
-# What changes a table, for all who are logged in are told of it; what is counted has a name.
-TOLD: Mapping[type, str] = {
-    reply.ADDUSER: "logins", reply.REMOVEUSER: "", reply.CLIENTSTATUS: "", reply.BATTLEOPENED: "battles_opened",
-    reply.BATTLECLOSED: "", reply.UPDATEBATTLEINFO: "", reply.JOINEDBATTLE: "", reply.LEFTBATTLE: ""}
+# What changes a table, for all who are logged in are told of it.
+# Written by tools/protocol.py of protocol/replies.toml: what all are told.
+TOLD = (reply.ADDUSER, reply.REMOVEUSER, reply.CLIENTSTATUS, reply.BATTLEOPENED, reply.BATTLECLOSED, reply.JOINEDBATTLE,
+        reply.LEFTBATTLE, reply.UPDATEBATTLEINFO)
+# End of what is written: what all are told.
+# Those that are counted, by name.
+COUNTED: Mapping[type, str] = {reply.ADDUSER: "logins", reply.BATTLEOPENED: "battles_opened"}
 
 
 def reason(error: BaseException) -> str:
@@ -98,9 +101,9 @@ class Observer:
 
     async def _hear(self, client: Client) -> None:
         async for it in client:
-            name = TOLD.get(type(it))
-            if name is not None:
-                self.counts[name] += bool(name)
+            if isinstance(it, TOLD):
+                if type(it) in COUNTED:
+                    self.counts[COUNTED[type(it)]] += 1
                 self._changed()
 
     async def _look(self, client: Client) -> None:
