@@ -31,6 +31,8 @@ WRONG = [
     (Command, 'who = "founder"', 'who = "nobody"', "who: 'nobody' is none of anyone, user, member, founder"),
     (Command, 'row = "status_row"\n', "", "MYSTATUS: row: it names the row "),
     (Command, 'meaning = "Leaves a channel."\n', "", "LEAVE: meaning: it is missing"),
+    (Reply, '"SAID main Anna"', '"SAID main Anna hi"', "SAID: bad: 'SAID main Anna hi' is a reply, or another's line"),
+    (Reply, '"SAID main Anna"', '"SAIDEX main Anna"', "SAID: bad: 'SAIDEX main Anna' is a reply, or another's line"),
     (Reply, 'tells = "users"', 'tells = "all"', "ADDUSER: tells: 'all' is none of users, battles, room, "),
     (Reply, 'tells = "users"\n', "", "ADDUSER: tells: it is missing"),
     (Command, '"rings {rest}"', '"rings {user}"', "RING: deed: user is none of first, others, rest, title"),

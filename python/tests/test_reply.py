@@ -87,17 +87,34 @@ READ += [
     (b"ADDSTARTRECT 15 0 1 199 200", r.ADDSTARTRECT(15, 0, 1, 199, 200)),
     (b"SETSCRIPTTAGS game/a=\tb= 2=3 ", r.SETSCRIPTTAGS((("game/a", ""), ("b", " 2=3 ")))),
 ]
+# No reply prints so.
+# Written by tools/protocol.py of protocol/replies.toml: no replies.
 NONE = [
-    b"", b" ", b"HELLO", b"pong", b" PONG", b"PONG ", b"PONG x", b"PONG\r", b"PONG\n", b"#07 PONG", b"#2147483648 PONG",
-    b"#-1 PONG", b"#1  PONG", b"#1", b"#1 ", b"#1 #2 PONG", b"BATTLECLOSED 0", b"BATTLECLOSED 2147483648",
-    b"BATTLECLOSED 07", b"BATTLECLOSED -7", b"BATTLECLOSED +7", b"BATTLECLOSED", b"ACCEPTED", b"ACCEPTED ",
-    b"ACCEPTED  Anna", b"ACCEPTED Anna ", b"ACCEPTED A.na", b"ACCEPTED " + b"x" * 21, b"SAID main Bert",
-    b"UPDATEBATTLEINFO 7 3 2 99 x", b"UPDATEBATTLEINFO 7 65536 1 99 x", b"UPDATEBATTLEINFO 7 3 1 99 a\tb",
-    b"CLIENTS main", b"CLIENTS main " + b" ".join([b"u"] * 33), b"SETSCRIPTTAGS ", b"SETSCRIPTTAGS a",
-    b"SETSCRIPTTAGS =a", b"SETSCRIPTTAGS a=1\t", b"SETSCRIPTTAGS a b=1", b"DISABLEUNITS", b"DISABLEUNITS a  b",
-    b"ADDSTARTRECT 16 0 0 0 0", b"ADDSTARTRECT 0 0 0 0 201", b"BATTLEOPENED 1 0 3 A 1.1.1.1 0 0 0 0 0 \t\t\t\t",
-    b"BATTLEOPENED 1 0 0 A 1.1.1.1 0 0 0 0 0 \t\t\t", b"JOINBATTLE 7 4294967296", b"JOINBATTLE 7 -2147483649",
-    b"MOTD a\rb", b"MOTD a\nb",
+    b"TASSERVER 0.38 * 65536 0", b"TASSERVER 0.38 * 8201 2", b"ACCEPTED", b"ACCEPTED ", b"ACCEPTED  Anna",
+    b"ACCEPTED Anna ", b"ACCEPTED a-b", b"ACCEPTED A.na", b"ACCEPTED u23456789012345678901", b"MOTD", b"MOTD a\rb",
+    b"ADDUSER Bert ?? -2147483649 2", b"ADDUSER Bert ?? +1 2", b"ADDUSER Bert S\tE 0 2", b"CLIENTSTATUS Bert",
+    b"CLIENTSTATUS Bert ", b"CLIENTSTATUS  Bert 12", b"CLIENTSTATUS Bert 12 ", b"CLIENTSTATUS Bert 12 3",
+    b"CLIENTSTATUS Bert 012", b"CLIENTSTATUS Bert -0", b"CLIENTSTATUS Bert -1", b"CLIENTSTATUS Bert 4294967296",
+    b"CLIENTSTATUS Bert 99999999999", b"CLIENTSTATUS Bert 1x", b"PONG ", b"PONG x", b"CLIENTS big",
+    b"CLIENTS big u01  u02",
+    b"CLIENTS big u01 u02 u03 u04 u05 u06 u07 u08 u09 u10 u11 u12 u13 u14 u15 u16 u17 u18 u19 u20 u21 u22 u23 u24 u25 u26 u27 u28 u29 u30 u31 u32 u33",
+    b"SAID main Anna", b"CHANNEL main 4294967296", b"CHANNEL main -0", b"OPENBATTLE 0", b"OPENBATTLE 01",
+    b"OPENBATTLE 2147483648", b"BATTLEOPENED 1 0 3 Anna 10.0.0.1 8452 8 0 0 123 a\tb\tc\td\te",
+    b"BATTLEOPENED 1 0 0 Anna 10.0.0.1 8452 8 0 0 123 a\tb\tc\td",
+    b"BATTLEOPENED 1 0 0 Anna 10.0.0.1 8452 8 0 0 123 a\tb\tc\td\te\tf", b"BATTLECLOSED", b"BATTLECLOSED 0",
+    b"BATTLECLOSED 2147483648", b"BATTLECLOSED 07", b"BATTLECLOSED -7", b"BATTLECLOSED +7", b"JOINBATTLE 1 4294967296",
+    b"JOINBATTLE 1 -2147483649", b"JOINEDBATTLE 1 Bert ", b"JOINEDBATTLE 1 Bert pw9 x", b"JOINBATTLEREQUEST Bert",
+    b"JOINBATTLEREQUEST Bert 10.0.0.2 x", b"JOINBATTLEREQUEST a-b 10.0.0.2",
+    b"UPDATEBATTLEINFO 1 0 2 123 Comet Catcher", b"UPDATEBATTLEINFO 1 65536 1 123 x",
+    b"UPDATEBATTLEINFO 1 0 1 123 a\tb", b"ADDSTARTRECT 16 0 0 200 60", b"ADDSTARTRECT 1 0 0 201 60",
+    b"ADDSTARTRECT 1 0 0 200 201", b"SETSCRIPTTAGS", b"SETSCRIPTTAGS ", b"SETSCRIPTTAGS a", b"SETSCRIPTTAGS =1",
+    b"SETSCRIPTTAGS a b=1", b"SETSCRIPTTAGS a=1\t", b"DISABLEUNITS", b"DISABLEUNITS ", b"DISABLEUNITS armcom  corcom",
+    b"ENABLEUNITS armcom ", b"ENABLEUNITS arm\tcom", b"ENABLEALLUNITS ",
+]
+# End of what is written: no replies.
+NONE += [
+    b"", b" ", b"HELLO", b"pong", b" PONG", b"PONG\r", b"PONG\n", b"#07 PONG", b"#2147483648 PONG", b"#-1 PONG",
+    b"#1  PONG", b"#1", b"#1 ", b"#1 #2 PONG", b"MOTD a\nb",
 ]
 
 

@@ -142,6 +142,17 @@ def tested_replies(tables):
     return [*lines, "]"]
 
 
+def no_replies(tables):
+    """Lines that no reply prints, as texts."""
+    parts = [quoted(text_of(line)) for it in tables.replies.lines for line in it.bad]
+    return ["NO_REPLIES = [", *wrapped("    ", parts, ",", 4), "]"]
+
+
+def tested_no_replies(tables):
+    parts = [bytes_of(line) for it in tables.replies.lines for line in it.bad]
+    return ["NONE = [", *wrapped("    ", parts, ",", 4), "]"]
+
+
 def tested_requests(tables):
     lines = ["PRINTED: List[Tuple[Request, bytes]] = ["]
     for it in tables.commands.lines:
@@ -172,16 +183,6 @@ def tried_without_battle(tables):
 def tried_as_member(tables):
     found = [it.tried[-2:] for it in tables.commands.lines if it.tried[2:] and it.who == "founder"]
     return [f"each send 2 {row_line(one)}#5 {row_line(other)}" for one, other in found]
-
-
-def mixed_words(tables):
-    """The words of commands that have their arguments in common."""
-    shapes = {}
-    for it in tables.commands.lines:
-        if it.arguments:
-            shapes.setdefault(it.arguments, []).append(f'"{it.word}"')
-    rows = [f'    "{arguments}": ({", ".join(words)}),' for arguments, words in shapes.items() if words[1:]]
-    return ["WORDS_OF = {", *rows, "}"]
 
 
 def place_of(it):

@@ -178,6 +178,11 @@ def good_replies(tables):
     return [f"static LINES: [&[u8]; {len(lines)}] = [", *(f"    {literal(it)}," for it in lines), "];"]
 
 
+def bad_replies(tables):
+    lines = [line for it in tables.replies.lines for line in it.bad]
+    return [f"static BAD_LINES: [&[u8]; {len(lines)}] = [", *(f"    {literal(it)}," for it in lines), "];"]
+
+
 def library_kinds(reply):
     """The kinds of a reply's arguments in the library's table."""
     kinds = []

@@ -35,6 +35,8 @@ def values(arguments, rest):
             value, rest = len(parts) > 2 and "b" in parts[2].split(" "), ""
         elif it.is_list:
             listed = [plain(word, it.kind == "names") for word in rest.split(" ") if word]
+            if it.kind == "names" and len(listed) > 32:
+                raise LineFault("too many names")
             value, rest = listed or missing(it), ""
         else:
             said, space, behind = rest.lstrip(" ").partition(" ")
@@ -108,17 +110,23 @@ def printed(arguments, found):
 
 
 def check_lines(tables):
-    """TableError where a good line does not read as what it is to be, or a bad one has another fault."""
+    """TableError where a good line does not read as what it is to be, a bad one of a command has another fault, or one of
+    a reply has none."""
     for table in (tables.commands, tables.replies):
         for it in table.lines:
             for line in it.good:
                 said = fault_of(it, line)
                 if said:
                     raise table.fault(it.at, it.word, "good", f"{line!r}: {said}")
-            for line, wanted in getattr(it, "bad", []):
-                said = fault_of(it, line)
-                if said != wanted:
-                    raise table.fault(it.at, it.word, "bad", f"{line!r}: {said or 'no fault'}, and not {wanted}")
+    for it in tables.commands.lines:
+        for line, wanted in it.bad:
+            said = fault_of(it, line)
+            if said != wanted:
+                raise tables.commands.fault(it.at, it.word, "bad", f"{line!r}: {said or 'no fault'}, and not {wanted}")
+    for it in tables.replies.lines:
+        for line in it.bad:
+            if fault_of(it, line) is None or parted(line)[1] != it.word:
+                raise tables.replies.fault(it.at, it.word, "bad", f"{line!r} is a reply, or another's line")
 
 
 def fault_of(it, line):

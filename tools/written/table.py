@@ -140,6 +140,7 @@ class Reply(Line):
     """A line of the server."""
 
     tells: str = ""             # of what: one of TELLS
+    bad: list = field(default_factory=list)         # lines with its word that no reply prints
 
     FILE = "protocol/replies.toml"
     KEY = "reply"
