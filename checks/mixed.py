@@ -16,22 +16,21 @@ import sys
 import time
 
 from crowd import Crowd, Peer
-from lobby_server import Account, Difference, Server, program, run
+from lobby_server import ROOT, Account, Difference, Server, program, run
+
+sys.path.insert(0, str(ROOT / "tools"))
+from written.lines import printed  # noqa: E402
+from written.table import Tables  # noqa: E402
 
 NAMES = [f"User{number:02}" for number in range(100)]
 WORDS = ["Robo", "Rex", "Kai", "Max"]
-KEYS = ["game/mode", "game/units", "map/start", "x", "y"]
-UNITS = ["armcom", "corcom", "armflash", "armpw", "corak"]
-# Commands that have their arguments in common.
-# Written by tools/protocol.py of protocol/commands.toml: words.
-WORDS_OF = {
-    "name channel, {text..}": ("SAY", "SAYEX"),
-    "name user": ("JOINBATTLEACCEPT", "FORCESPECTATORMODE", "KICKFROMBATTLE", "RING"),
-    "{text..}": ("SAYBATTLE", "SAYBATTLEEX"),
-    "word unit, one or more": ("DISABLEUNITS", "ENABLEUNITS"),
-    "name user, 0..15 number": ("FORCETEAMNO", "FORCEALLYNO"),
-}
-# End of what is written: words.
+# What some arguments may be, by their names; others are any number within their bounds, or one of WORDS.
+VALUES = {"channel": "abcd", "password": ["*", "*", "word"], "locked": [0, 0, 0, 0, 1],
+          "keys": ["game/mode", "game/units", "map/start", "x", "y"],
+          "units": ["armcom", "corcom", "armflash", "armpw", "corak"]}
+# How often a command is said beside the others, where not as often as each of them. Who logs in or out is for Mixed to say.
+OFTEN = {"LOGIN": 0, "EXIT": 0, "OPENBATTLE": 0.4, "JOINBATTLEACCEPT": 2, "LEAVEBATTLE": 0.1, "KICKFROMBATTLE": 0.4,
+         "ENABLEALLUNITS": 0.2}
 
 
 def login(account):
@@ -40,99 +39,49 @@ def login(account):
 
 
 class Speaker:
-    """Makes lines of all commands, most of them such as are served."""
+    """Makes lines of all commands in the table, most of them such as are served."""
 
     def __init__(self, choice, names):
         self.choice, self.names, self.battles = choice, names, 1
-        self.makers = [getattr(self, it) for it in dir(Speaker) if it.startswith("say_")]
-
-    def u32(self):
-        return self.choice.randrange(1 << 32)
-
-    def colour(self):
-        return self.choice.randrange(-9, 1 << 24)
-
-    def name(self):
-        return self.choice.choice(self.names)
-
-    def channel(self):
-        return self.choice.choice("abcd")
+        self.commands = Tables().commands.lines
+        self.weights = [OFTEN.get(it.word, 1) for it in self.commands]
+        self.faults = ["NOTHING", "  ", *(line for it in self.commands for line, _ in it.bad)]
 
     def line(self):
         number = f"#{self.choice.randrange(99)} " if self.choice.random() < 0.2 else ""
-        return number + self.choice.choice(self.makers)() + self.choice.choice(("\n", "\r\n"))
+        said = self.said(self.choice.choices(self.commands, self.weights)[0])
+        if self.choice.random() < 0.04:
+            said = self.choice.choice(self.faults)
+        return number + said + self.choice.choice(("\n", "\r\n"))
 
-    def say_channels(self):
-        verb = self.choice.choice(("JOIN", "JOIN", "LEAVE"))
-        return f"{verb} {self.channel()}"
+    def said(self, command):
+        """A line of this command. What stands behind an argument that is left out is left out too."""
+        values = []
+        for it in command.kept:
+            is_left_out = it.is_optional and (self.choice.random() < 0.3 or values[-1] is None)
+            values.append(None if is_left_out else self.value(it))
+        return command.word + printed(command.kept, values)
 
-    def say_talk(self):
-        verb = self.choice.choice(WORDS_OF["name channel, {text..}"])
-        return f"{verb} {self.channel()} text {self.u32()}"
+    def value(self, it):
+        some = self.values(it)
+        if it.kind == "pairs":
+            return [(self.choice.choice(VALUES["keys"]), value) for value in self.choice.choices(some, k=self.few())]
+        return self.choice.choices(some, k=self.few()) if it.is_list else self.choice.choice(some)
 
-    def say_private(self):
-        return f"SAYPRIVATE {self.name()} text {self.u32()}"
+    def few(self):
+        return self.choice.randrange(1, 4)
 
-    def say_status(self):
-        return f"MYSTATUS {self.u32()}"
-
-    def say_short(self):
-        if self.choice.random() < 0.05:
-            return "LEAVEBATTLE"
-        return self.choice.choice(("PING", "CHANNELS", "NOTHING", "SAY", "MYSTATUS x", "  ", "RING \t"))
-
-    def say_open(self):
-        if self.choice.random() < 0.8:
-            return "PING"
-        word = self.choice.choice(("*", "*", "word"))
-        return f"OPENBATTLE 0 0 {word} 8452 8 {self.colour()} 0 1 Spring\t104.0\tMap {self.u32()}\tTitle\tBA"
-
-    def say_join(self):
-        battle = max(1, self.battles - self.choice.randrange(6))
-        return f"JOINBATTLE {battle}{self.choice.choice(('', ' word', ' word script', ' *'))}"
-
-    def say_own_status(self):
-        return f"MYBATTLESTATUS {self.u32()} {self.colour()}"
-
-    def say_in_battle(self):
-        verb = self.choice.choice(WORDS_OF["{text..}"])
-        return f"{verb} text {self.u32()}"
-
-    def say_info(self):
-        return f"UPDATEBATTLEINFO {self.choice.randrange(9)} {int(self.choice.random() < 0.2)} 7 Map {self.u32()}"
-
-    def say_bot(self):
-        verb = self.choice.choice(("ADDBOT", "UPDATEBOT", "REMOVEBOT"))
-        rest = "" if verb == "REMOVEBOT" else f" {self.u32()} {self.colour()}"
-        return f"{verb} {self.choice.choice(WORDS)}{rest}{' KAIK' if verb == 'ADDBOT' else ''}"
-
-    def say_rectangle(self):
-        if self.choice.random() < 0.3:
-            return f"REMOVESTARTRECT {self.choice.randrange(16)}"
-        return f"ADDSTARTRECT {self.choice.randrange(16)} {' '.join(str(self.choice.randrange(201)) for _ in range(4))}"
-
-    def say_tags(self):
-        if self.choice.random() < 0.3:
-            return f"REMOVESCRIPTTAGS {self.choice.choice(KEYS)} {self.choice.choice(KEYS)}"
-        return "SETSCRIPTTAGS " + "\t".join(f"{self.choice.choice(KEYS)}={self.u32()}" for _ in range(self.choice.randrange(1, 4)))
-
-    def say_answer(self):
-        verb = self.choice.choice(("JOINBATTLEACCEPT", "JOINBATTLEACCEPT", "JOINBATTLEDENY"))
-        return f"{verb} {self.name()}"
-
-    def say_units(self):
-        if self.choice.random() < 0.1:
-            return "ENABLEALLUNITS"
-        verb = self.choice.choice(WORDS_OF["word unit, one or more"])
-        return " ".join([verb, *(self.choice.choice(UNITS) for _ in range(self.choice.randrange(1, 4)))])
-
-    def say_force(self):
-        verb = self.choice.choice(("HANDICAP", "FORCETEAMCOLOR", *WORDS_OF["name user, 0..15 number"]))
-        return f"{verb} {self.name()} {self.choice.randrange(16)}"
-
-    def say_member(self):
-        verb = self.choice.choice(("RING", *WORDS_OF["name user"]))
-        return f"{verb} {self.name()}"
+    def values(self, it):
+        """What an argument may be, or a part of a list."""
+        if it.name == "battleID":
+            return range(max(1, self.battles - 5), self.battles + 1)
+        if it.name in VALUES:
+            return VALUES[it.name]
+        if it.bounds:
+            return range(it.bounds[0], it.bounds[1] + 1)
+        if it.kind in ("sentence", "text", "pairs"):
+            return [f"{it.name} {self.choice.randrange(1 << 32)}"]
+        return self.names if it.kind == "name" else WORDS
 
 
 class Mixed:
