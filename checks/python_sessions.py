@@ -34,17 +34,14 @@ FOUNDER = {"JOINBATTLEACCEPT": 1, "JOINBATTLEDENY": 1, "UPDATEBATTLEINFO": 3, "A
            "KICKFROMBATTLE": 1, "RING": 1}
 # End of what is written: weights.
 EVERYBODY["LEAVEBATTLE"] = 1     # of one too who asks to join a battle
-WIDE, STATUS, SIDE = (-2147483648, -1, 0, 255, 4294967295), (0, 1, 3, 1024, 4195330, 4294967295), (0, 100, 200)
-TEXT, TITLE, SHORT = ("", "a  b", "\udce4=", " ", "Käse", "x" * 200), ("", "Comet Catcher", "\udcff", " x "), (0, 7, 65535)
-# What an argument may be, by its name.
+# What an argument may be, by its name, or else by its kind. Other numbers are the least, the greatest and one between.
 VALUES = {
-    "status": STATUS, "battleStatus": STATUS, "teamColor": WIDE, "gameHash": WIDE, "rank": WIDE, "mapHash": WIDE, "cpu": WIDE,
-    "channel": ("main", "x", "[y]"), "key": (None, "k"), "text": TEXT, "reason": (None, *TEXT), "type": (0, 1),
-    "natType": (0, 1, 2), "password": ("*", "*", "*", "pw"), "scriptPassword": (None, "sp"), "port": SHORT,
-    "maxPlayers": SHORT, "spectatorCount": SHORT, "engineName": TITLE, "engineVersion": TITLE, "map": TITLE, "title": TITLE,
-    "gameName": TITLE, "AI": TITLE, "locked": (False, False, True), "bot": ("Robo", "Rex", "\udcff"), "allyNo": (0, 7, 15),
-    "left": SIDE, "top": SIDE, "right": SIDE, "bottom": SIDE, "value": (0, 55, 100), "number": (0, 7, 15),
+    "channel": ("main", "x", "[y]"), "key": (None, "k"), "password": ("*", "*", "*", "pw"), "scriptPassword": (None, "sp"),
+    "locked": (False, False, True), "bot": ("Robo", "Rex", "\udcff"),
     "units": (("armcom",), ("corak", "u", "="), ("u", "armcom")), "keys": (("a",), ("map/x", "b")),
+    "u32": (0, 1, 3, 1024, 4195330, 4294967295), "wide": (-2147483648, -1, 0, 255, 4294967295), "0..1": (0, 1),
+    "0..100": (0, 55, 100), "0..65535": (0, 7, 65535), "text": ("", "a  b", "\udce4=", " ", "Käse", "x" * 200),
+    "sentence": ("", "Comet Catcher", "\udcff", " x "), "word": ("w", "="), "words": (("w",), ("=", "w")),
     "pairs": ((("a", "1"),), (("map/x", ""), ("b", "=2 ")), (("b", "Käse"),)),
 }
 
@@ -58,7 +55,7 @@ class Player:
         self.left = choice.randrange(1, LONGEST)
         if choice.random() < 0.05:
             self.say(request.LOGIN(name, "wrong", 0, "*", ""))
-        self.say(request.LOGIN(name, WORD, choice.choice(WIDE), "*", "Players 1.0", choice.random() < 0.3))
+        self.say(request.LOGIN(name, WORD, choice.choice(VALUES["wide"]), "*", "Players 1.0", choice.random() < 0.3))
         self.say(request.JOIN("main"))
 
     def say(self, it, number=None):
@@ -86,20 +83,25 @@ class Player:
         if room is not None and self.view.battles[room.battleID].founder == self.name or self.choice.random() < 0.02:
             weights.update(FOUNDER)
         kind = getattr(request, self.choice.choices([*weights], [*weights.values()])[0])
-        said = [self.choice.choice(self.values(it.name, kind, room)) for it in kinds.arguments(kind)]
+        said = [self.choice.choice(self.values(it, kind, room)) for it in kinds.arguments(kind)]
         if kind is request.JOINBATTLE and self.choice.random() < 0.5:
             said = said[:1]
         self.say(kind(*said), self.choice.choice((None, None, 0, 2147483647)))
         self.left -= 1
 
-    def values(self, name, kind, room):
-        if name == "battleID":
+    def values(self, it, kind, room):
+        """What an argument of a request of this kind may be."""
+        if it.name in VALUES:
+            return VALUES[it.name]
+        if it.name == "battleID":
             return [*self.view.battles] or [1]
-        if name == "user" and kind in (request.JOINBATTLEACCEPT, request.JOINBATTLEDENY):
+        if it.kind == "name" and kind in (request.JOINBATTLEACCEPT, request.JOINBATTLEDENY):
             return self.askers
-        if name == "user":
+        if it.kind == "name":
             return [it.name for it in room.members] if room else NAMES
-        return VALUES[name]
+        low, _, high = it.kind.partition("..")
+        some = VALUES.get(it.kind) or (int(low), (int(low) + int(high)) // 2, int(high))
+        return (None, *some) if it.is_optional else some
 
     def end(self):
         """Leaves, and gives all that it was sent."""

@@ -219,8 +219,11 @@ class Printed(unittest.TestCase):
                         self.fails(PrintFault.BAD_FIELDS, it)
 
     def test_other_faults(self) -> None:
-        for kind in (r.SETSCRIPTTAGS, r.REMOVESCRIPTTAGS, r.DISABLEUNITS, r.ENABLEUNITS):
-            self.fails(PrintFault.NOTHING_LISTED, kind(()))
+        for kind in r.KINDS:
+            for at, of in enumerate(kinds.arguments(kind)):
+                if of.kind in ("words", "pairs"):
+                    for it in without(kind, at, ()):
+                        self.fails(PrintFault.NOTHING_LISTED, it)
         self.fails(PrintFault.WORD_SKIPPED, r.JOINBATTLE(7, None, "pw9"))
         for number in (-1, 1 << 31, 1 << 32, (1 << 32) + 7, 1 << 70):
             self.fails(PrintFault.OUT_OF_RANGE, r.PING(), number)
