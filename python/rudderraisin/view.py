@@ -28,7 +28,7 @@ class User:
 
 @dataclass(frozen=True)
 class Battle:
-    """A battle, as all users see it (BATTLEOPENED, UPDATEBATTLEINFO, JOINEDBATTLE, LEFTBATTLE)."""
+    """A battle, as all users see it."""
 
     battleID: int           # 1 to 2147483647
     type: int               # 0 or 1
