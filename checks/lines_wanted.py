@@ -181,7 +181,7 @@ OTHERS = [
 # holds nothing that there is.
 REFUSED = [
     (0, None, [], "NO_COMMAND"),
-    (37, None, [], "NO_COMMAND"),
+    (len({word for word, *_ in REQUESTS}) + 1, None, [], "NO_COMMAND"),
     (4294967295, 2147483648, ["x"], "NO_COMMAND"),
     ("PING", 2147483648, [], "OUT_OF_RANGE"),
     ("PING", None, [""], "BAD_FIELDS"),
