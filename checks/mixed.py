@@ -58,7 +58,7 @@ class Speaker:
         """A line of this command. What stands behind an argument that is left out is left out too."""
         values = []
         for it in command.kept:
-            is_left_out = it.is_optional and (self.choice.random() < 0.3 or values[-1] is None)
+            is_left_out = it.is_optional and (self.choice.random() < 0.3 or values[-1:] == [None])
             values.append(None if is_left_out else self.value(it))
         return command.word + printed(command.kept, values)
 
