@@ -30,7 +30,7 @@ from pathlib import Path
 
 from crowd import Crowd, Peer
 from lobby_server import ADDRESS, ROOT, Account, Difference, Server, free_port, greeted, program, run
-from mixed import Mixed, Speaker
+from mixed import VALUES, Mixed, Speaker
 
 class Owner(Account):
     """An account with a word of its own."""
@@ -103,7 +103,8 @@ class Session(Mixed):
         if b"\nLOGININFOEND\n" not in peer.heard and b"DENIED " in peer.heard[-2_000:]:
             self.crowd.send(peer, self.login(peer.account))
         is_key = self.choice.random() < 0.01
-        self.crowd.send(peer, f"JOIN {self.speaker.channel()} {peer.account.word}\n" if is_key else self.speaker.line())
+        channel = self.choice.choice(VALUES["channel"])
+        self.crowd.send(peer, f"JOIN {channel} {peer.account.word}\n" if is_key else self.speaker.line())
         self.lines += 1
         return None
 
