@@ -109,6 +109,23 @@ drains_held old new wire p q h k c before after piece taken is fresh still few s
       dry_is = e.dry_is;
     }
 
+-- drains behind what was said, in a hold that goes on
+pub drains_behind : (old new : Carried) (wire : Wire) (h k : ShownHold) (c : ℕ) (before after : List ℕ) (piece : Chunk) → k.pass ≡ h.pass → length k.events ≤ length h.events + 8
+    → c ≡ old.session.client → DrainedBehind (pass_after h) (pass_after k) c before after piece → new.session ≡ old.session → new.unfed ≡ old.unfed
+    → old.unwritten ≡ before → new.unwritten ≡ after → Drains (snapshot old wire (pass_after h)) (snapshot new wire (pass_after k)) piece.finished piece.dry
+drains_behind old new wire h k c before after piece still few same d session unfed none unwritten =
+    let e : DrainedBehind (pass_after h) (pass_after k) old.session.client before after piece =
+    subst (λ (x : ℕ). DrainedBehind (pass_after h) (pass_after k) x before after piece) same d in
+    record {
+      talk = e.talk;
+      went = went_drains old new wire (pass_after h) (pass_after k) e.talk e.own session unfed (unwritten ∙ e.bytes ∙ ap (λ l. l ++ drained_for old.session.client e.talk) (sym none)) e.joined;
+      own = e.own;
+      few = omega (arith, talk_length (pass_after h) (pass_after k) e.talk e.joined, hold_length k (pass_after k) refl, hold_length h (pass_after h) refl, ap (λ (x : ShownPass). length x.worker.mine) still, few);
+      no_question = e.no_question;
+      finished_is = e.finished_is;
+      dry_is = e.dry_is;
+    }
+
 -- more bytes stand there than none did
 pub grew : (before after : List ℕ) → length before < length after → after ≢ []
 grew before after longer none = absurd (omega (arith, longer, ap length none))

@@ -1,5 +1,5 @@
 -- What a hold of a turn did.
-use Rattle.std.specs.Prelude.{◌≡◌, ◌⊎◌, ℕ, ◌<◌, ◌≤◌, Bool, true, false, List, [], ◌∷◌, ◌++◌, length, take, Option}
+use Rattle.std.specs.Prelude.{◌≡◌, ◌≢◌, ◌⊎◌, ℕ, ◌<◌, ◌≤◌, Bool, true, false, List, [], ◌∷◌, ◌++◌, length, take, Option}
 use Rattle.std.specs.Prelude.{Some, None}
 use Rattle.command_grammar.specs.declared.command.Command.{Command}
 use Rattle.command_grammar.specs.declared.command.Command.TheVariants as command
@@ -115,6 +115,29 @@ pub record Drains (old new : Snapshot) (finished dry : Bool) : Type 0 where
   pub no_question : questions talk ≡ []
   pub finished_is : told_end talk ≡ finished
   pub dry_is : dry ≡ true → EndsDry old.conn.session.client talk
+
+-- it drained where nothing is next and all that was drained before was written
+pub record DrainsRest (old new : Snapshot) (piece : Chunk) : Type 0 where
+  pub drains : Drains old new piece.finished piece.dry
+  pub came : piece.dry ≡ false → new.conn.unwritten ≢ []
+  pub written : old.conn.unwritten ≡ []
+  pub nothing : IsNextOf (Some old.conn.session) Nothing
+  pub session : new.conn.session ≡ old.conn.session
+  pub unfed : new.conn.unfed ≡ old.conn.unfed
+  pub wire : new.wire ≡ old.wire
+
+-- it drained so behind what was said, or did nothing
+abbrev pub DrainsBehind : Snapshot → Snapshot → Option Chunk → Type 0
+DrainsBehind old new None = new ≡ old
+DrainsBehind old new (Some piece) = DrainsRest old new piece
+
+-- it said so many of the next lines to the lobby, and may have drained behind them
+pub record SaysThenDrains (old new : Snapshot) (said : Said) (drained : Option Chunk) : Type 0 where
+  pub between : Snapshot
+  pub says : SaysLines old between said.lines said.wakes 0 said.told
+  pub wire : between.wire ≡ old.wire
+  pub unfed : between.conn.unfed ≡ old.conn.unfed
+  pub behind : DrainsBehind between new drained
 
 -- it drained into an empty slice and did nothing else, which tells whether nothing will ever come of its client
 pub record Asks (old new : Snapshot) (finished : Bool) : Type 0 where

@@ -3,7 +3,7 @@
 ghost use Rattle.std.specs.Prelude.{◌≡◌, ◌≢◌, ◌↔◌, ◌+◌, ◌≤◌, ℕ, List, [], ◌++◌, length, drop, OnOk, OnErr, IfOk};
 ghost use Rattle.std.specs.Prelude.{IsTrue, Some, true, false};
 ghost use Rattle.lobby_lock.specs.Passes.{ShownPass};
-ghost use Rattle.client_session.specs.declared.session.Next.TheVariants.{Spoilt};
+ghost use Rattle.client_session.specs.declared.session.Next.TheVariants.{Nothing, Spoilt};
 ghost use Rattle.client_session.specs.OneSession.{Accepted, HasLineNext, IsNextOf};
 ghost use Rattle.client_session.specs.Sessions.{Heard, KeepsKinds};
 ghost use Rattle.lobby_holds.specs.Wire.{Wire, ReadsBytes, MayGoOn, got_count};
@@ -86,6 +86,13 @@ impl Conn {
             return false;
         }
         self.session.is_ready()
+    }
+
+    /// Whether neither a line nor a spoilt place is next.
+    pub(crate) fn has_nothing_next(&self) -> bool
+        ensures { result ≡ true → IsNextOf (Some self.now.session) Nothing }
+    {
+        !self.session.is_ready()
     }
 
     /// What was drained and not yet written.

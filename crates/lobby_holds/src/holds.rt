@@ -14,6 +14,7 @@ ghost use Rattle.lobby_holds.specs.Snapshot.{snapshot};
 ghost use Rattle.lobby_holds.specs.Went.{Went};
 ghost use Rattle.lobby_holds.specs.Holds.{Stands, Made, SaysLines, IsWithin, HasNoLineNext, HasLoudNext, StopsAt};
 ghost use Rattle.lobby_holds.specs.Holds.{is_quiet, HasTold, Drains, Asks, DrainedInto, DrainedBehind, GivesUp};
+ghost use Rattle.lobby_holds.specs.Holds.{DrainsBehind, SaysThenDrains};
 
 use crate::buffer::{Buffer, PIECE};
 use crate::conn::Conn;
@@ -30,6 +31,9 @@ use std::sync::Wait;
 /// the server's time went into its calls of the system where much was to be sent, and with four a third of that is
 /// saved.
 const PIECES: usize = 4;
+
+/// The most drains of a hold: each piece, and once more behind each that was not full.
+const MOST_DRAINS: usize = 8;
 
 /// What was said in a hold.
 #[derive(Clone, Copy)]
@@ -71,6 +75,7 @@ fn say_line<G: Gate>(
         → Made (snapshot conn.old wire (pass_after held.old)) (snapshot conn.new wire (pass_after held.new))
         (event.Say conn.old.session.client request) wakes held.old.lobby.told held.new.lobby.told) }
     ensures unwritten { conn.new.unwritten ≡ conn.old.unwritten }
+    ensures unfed { conn.new.unfed ≡ conn.old.unfed }
     ensures count { OnOk result (length held.new.events ≡ length held.old.events + 1) }
     ensures err { OnErr result ((conn.new ≡ conn.old) × (held.new ≡ held.old)) }
     ensures pass { held.new.pass ≡ held.old.pass }
@@ -114,6 +119,7 @@ fn say_next<G: Gate>(
         ⊎ (HasNoLineNext conn.new.session ⊎ ((is_enough ≡ true) × HasLoudNext conn.new.session))) }
     ensures err { OnErr result ((conn.new ≡ conn.old) × (held.new ≡ held.old)) }
     ensures line { OnErr result (HasLineNext conn.new.session) }
+    ensures unfed { conn.new.unfed ≡ conn.old.unfed }
     ensures pass { held.new.pass ≡ held.old.pass }
 {
     if held.count() >= MOST_EVENTS {
@@ -163,6 +169,7 @@ fn say_lines<G: Gate>(
         (snapshot conn.new wire (pass_after held.new)) result.lines result.wakes 0 result.told }
     ensures within { IsWithin most result }
     ensures stops { StopsAt most allowance conn.new.session result }
+    ensures unfed { conn.new.unfed ≡ conn.old.unfed }
     ensures pass { held.new.pass ≡ held.old.pass }
 {
     let before = held.told();
@@ -208,7 +215,9 @@ fn say_lines<G: Gate>(
 }
 
 /// Says the next lines to the lobby in one hold, so many at most, of which the first was read as this
-/// request. The others are read in the hold, as long as they tell less than the allowance, if there is one.
+/// request. The others are read in the hold, as long as they tell less than the allowance, if there is one. Where it
+/// is to, and no line is left, it drains behind them in the same hold, if all that was drained before was written, the
+/// hold has place and memory is there.
 pub fn say<R: Wait, G: Gate>(
     rt: &R,
     conn: &mut Conn,
@@ -217,19 +226,50 @@ pub fn say<R: Wait, G: Gate>(
     request: Request,
     most: usize,
     allowance: Option<u64>,
-) -> (Pass, Said)
+    drains: bool,
+) -> (Pass, Said, Option<Chunk>)
     requires desk { pass.desk ≡ desk.now.desk.now }
     requires kinds { IsTrue (keeps_kinds request.command) }
     requires next { IsNextOf (Some conn.old.session) (Line request) }
     requires some { 1 ≤ most }
-    ensures says { (wire : Wire) → SaysLines (snapshot conn.old wire pass) (snapshot conn.new wire result.0)
-        result.1.lines result.1.wakes 0 result.1.told }
+    ensures says { (wire : Wire) → SaysThenDrains (snapshot conn.old wire pass) (snapshot conn.new wire result.0)
+        result.1 result.2 }
     ensures within { IsWithin most result.1 }
     ensures stops { StopsAt most allowance conn.new.session result.1 }
+    ensures unfed { conn.new.unfed ≡ conn.old.unfed }
+    ensures only { drains ≡ false → result.2 ≡ None }
+    ensures refused { result.1.refused ≡ true → result.2 ≡ None }
 {
     let mut held = desk.take(rt, pass);
     let said = say_lines(conn, &mut held, desk.gate, request, most, allowance);
-    (desk.give(rt, held), said)
+    let drained = if drains && !said.refused {
+        drain_behind(conn, &mut held)
+    } else {
+        None
+    };
+    (desk.give(rt, held), said, drained)
+}
+
+/// Drains for the client of a connection behind what was said, in a hold that goes on, where no line is left, all that
+/// was drained before was written, the hold has place and memory is there.
+fn drain_behind(conn: &mut Conn, held: &mut Held) -> Option<Chunk>
+    ensures drains { (wire : Wire) → DrainsBehind (snapshot conn.old wire (pass_after held.old))
+        (snapshot conn.new wire (pass_after held.new)) result }
+    ensures session { conn.new.session ≡ conn.old.session }
+    ensures unfed { conn.new.unfed ≡ conn.old.unfed }
+    ensures pass { held.new.pass ≡ held.old.pass }
+{
+    if held.count() > MOST_EVENTS - MOST_DRAINS {
+        return None;
+    }
+    if !conn.has_nothing_next() || !conn.is_written() {
+        return None;
+    }
+    if conn.unwritten.make_room().is_err() {
+        return None;
+    }
+    let client = conn.client();
+    Some(drain_pieces(held, client, &mut conn.unwritten))
 }
 
 /// Drains into a slice, in a hold that goes on.
@@ -273,15 +313,15 @@ pub(crate) fn drain_all(held: &mut Held, client: u64, into: &mut [u8]) -> Chunk
     }
 }
 
-/// Drains behind what stands in a buffer that has room for a piece, in a new hold: one piece, and as long
+/// Drains behind what stands in a buffer that has room for a piece, in a hold that has place: one piece, and as long
 /// as they are full and memory is there, further ones, so that one write carries more.
 fn drain_pieces(held: &mut Held, client: u64, unwritten: &mut Buffer) -> Chunk
-    requires new { held.old.events ≡ [] }
+    requires few { length held.old.events + MOST_DRAINS ≤ MOST_EVENTS }
     requires stands { Stands held.old }
     requires room { PIECE ≤ unwritten.old.room }
     ensures drained { DrainedBehind (pass_after held.old) (pass_after held.new) client unwritten.old.bytes
         unwritten.new.bytes result }
-    ensures count { length held.new.events ≤ 8 }
+    ensures count { length held.new.events ≤ length held.old.events + MOST_DRAINS }
     ensures pass { held.new.pass ≡ held.old.pass }
 {
     let mut piece = unwritten.drain(held, client);

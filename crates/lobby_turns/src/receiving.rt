@@ -1,18 +1,19 @@
 //! The half of a turn that receives from the client: what its link gives is fed to its session, whole lines are said to
 //! the lobby, and where none is left, the link is read.
 
-ghost use Rattle.std.specs.Prelude.{◌≡◌, ℕ, ◌+◌, ◌^◌, ◌<◌, ◌≤◌, ◌||◌, [], Option, Some};
+ghost use Rattle.std.specs.Prelude.{◌≡◌, ℕ, ◌+◌, ◌^◌, ◌<◌, ◌≤◌, ◌||◌, [], Option, Some, true, false};
 ghost use Rattle.lobby_lock.specs.Passes.{ShownPass};
 ghost use Rattle.client_session.specs.declared.session.Next.TheVariants.{Nothing};
-ghost use Rattle.client_session.specs.OneSession.{IsNextOf};
+ghost use Rattle.client_session.specs.OneSession.{HasLineNext, IsNextOf};
 ghost use Rattle.lobby_holds.specs.Wire.{Wire, MayGoOn, IsFresh};
 ghost use Rattle.lobby_holds.specs.Snapshot.{snapshot};
 ghost use Rattle.lobby_holds.specs.Went.{Went};
 ghost use Rattle.lobby_post.specs.Mask.{has_home};
-ghost use Rattle.lobby_turns.specs.Receiving.{StaysWithin, LimitIs, ReceivesNext, Receives, Share, left_of, share_of};
+ghost use Rattle.lobby_turns.specs.Receiving.{GaveBytes, LimitIs, ReceivesStep, ReceivesThenDrains, Share, StaysWithin};
+ghost use Rattle.lobby_turns.specs.Receiving.{left_of, share_of};
 
 use client_session::Next;
-use lobby_holds::holds::{self, Said};
+use lobby_holds::holds::{self, Chunk, Said};
 use lobby_holds::{Conn, Gate, GatedDesk, Got, Link};
 use lobby_lock::Pass;
 use lobby_machine::Wakes;
@@ -38,6 +39,10 @@ pub(crate) struct Left {
     pub(crate) bytes: usize,
     /// How much it may tell before it puts a line off, if there is a bound.
     pub(crate) told: Option<u64>,
+    /// Whether the link, which just gave bytes and likely has no more, is read before the next line is said.
+    pub(crate) looks: bool,
+    /// Whether the link has said in this turn that it has nothing more now, or that it has ended.
+    pub(crate) is_dry: bool,
 }
 
 /// How far a turn received from its client.
@@ -80,10 +85,38 @@ impl Received {
 pub(crate) enum Step {
     /// Lines were said to the lobby, until a hold was over or memory was refused.
     Said(Said),
+    /// The same, of which none is left, and behind them the client was drained in the same hold.
+    Drained(Said, Chunk),
     /// So many bytes were read.
     Read(usize),
+    /// The link has nothing more now, or has ended, while a line is next.
+    Dry,
+    /// No line is left, and the link had nothing more before.
+    Done,
     /// The turn receives no more. It does so again where the next line is no quiet one, and as much was told as may be.
     Ends(ReceiveState),
+}
+
+/// Reads the link before the next line is said, so many bytes at most. It gave bytes before. So it is known, where it has
+/// no more, that nothing is left behind those lines, and the client is drained in the hold that says them.
+fn look_ahead<L: Link>(conn: &mut Conn, link: &mut L, pass: Pass, most: usize) -> (Pass, Step)
+    requires fed { conn.old.unfed ≡ [] }
+    requires some { 1 ≤ most }
+    requires wire { MayGoOn (L.wire link.old) }
+    requires gave { GaveBytes (L.wire link.old) }
+    requires line { HasLineNext conn.old.session }
+    ensures received { ReceivesStep (snapshot conn.old (L.wire link.old) pass)
+        (snapshot conn.new (L.wire link.new) result.0) result.1 }
+    ensures within { (left : Left) → left.bytes ≡ most → left.is_dry ≡ false
+        → StaysWithin left conn.new.session result.1 }
+{
+    match conn.read(link, most) {
+        Ok(Got::Bytes(count)) => (pass, Step::Read(count)),
+        Ok(Got::Later) => (pass, Step::Dry),
+        Ok(Got::End) => (pass, Step::Dry),
+        Ok(Got::Fault) => (pass, Step::Ends(ReceiveState::Stop)),
+        Err(_) => (pass, Step::Ends(ReceiveState::Memory)),
+    }
 }
 
 /// Reads the link, where it may have more, so many bytes at most.
@@ -92,9 +125,10 @@ fn receive_link<L: Link>(conn: &mut Conn, link: &mut L, pass: Pass, most: usize)
     requires some { 1 ≤ most }
     requires wire { MayGoOn (L.wire link.old) }
     requires next { IsNextOf (Some conn.old.session) Nothing }
-    ensures received { ReceivesNext (snapshot conn.old (L.wire link.old) pass)
+    ensures received { ReceivesStep (snapshot conn.old (L.wire link.old) pass)
         (snapshot conn.new (L.wire link.new) result.0) result.1 }
-    ensures within { (left : Left) → left.bytes ≡ most → StaysWithin left conn.new.session result.1 }
+    ensures within { (left : Left) → left.bytes ≡ most → left.is_dry ≡ false
+        → StaysWithin left conn.new.session result.1 }
 {
     match link.last_got() {
         Some(Got::End) => return (pass, Step::Ends(ReceiveState::All)),
@@ -111,7 +145,7 @@ fn receive_link<L: Link>(conn: &mut Conn, link: &mut L, pass: Pass, most: usize)
 }
 
 /// Feeds what was read, and then says the next lines to the lobby, as many as are left, as long as they tell less than
-/// is left, if there is a bound; where no line is next, reads the link.
+/// is left, if there is a bound; where no line is next, reads the link, unless that had nothing more before.
 fn receive_next<R: Wait, L: Link, G: Gate>(
     rt: &R,
     conn: &mut Conn,
@@ -123,9 +157,14 @@ fn receive_next<R: Wait, L: Link, G: Gate>(
     requires desk { pass.desk ≡ desk.now.desk.now }
     requires wire { MayGoOn (L.wire link.old) }
     requires some { (1 ≤ left.lines) × (1 ≤ left.bytes) }
-    ensures received { ReceivesNext (snapshot conn.old (L.wire link.old) pass)
+    requires looks { left.looks ≡ true → GaveBytes (L.wire link.old) }
+    requires dry { left.is_dry ≡ true → conn.old.unfed ≡ [] }
+    ensures received { ReceivesStep (snapshot conn.old (L.wire link.old) pass)
         (snapshot conn.new (L.wire link.new) result.0) result.1 }
     ensures within { StaysWithin left conn.new.session result.1 }
+    ensures fed { left.is_dry ≡ true → conn.new.unfed ≡ [] }
+    ensures desk { result.0.desk ≡ pass.desk }
+    ensures number { result.0.worker.number ≡ pass.worker.number }
 {
     match conn.feed() {
         Ok(()) => {}
@@ -137,10 +176,25 @@ fn receive_next<R: Wait, L: Link, G: Gate>(
                 request.discard();
                 return (pass, Step::Ends(ReceiveState::Again));
             }
-            let (pass, said) = holds::say(rt, conn, desk, pass, request, left.lines, left.told);
-            (pass, Step::Said(said))
+            if left.looks && !left.is_dry {
+                request.discard();
+                return look_ahead(conn, link, pass, left.bytes);
+            }
+            let (most, told, drains) = (left.lines, left.told, left.is_dry);
+            let (pass, said, drained) = holds::say(
+                rt, conn, desk, pass, request, most, told, drains,
+            );
+            match drained {
+                Some(piece) => (pass, Step::Drained(said, piece)),
+                None => (pass, Step::Said(said)),
+            }
         }
-        Ok(Next::Nothing) => receive_link(conn, link, pass, left.bytes),
+        Ok(Next::Nothing) => {
+            if left.is_dry {
+                return (pass, Step::Done);
+            }
+            receive_link(conn, link, pass, left.bytes)
+        }
         Ok(Next::Spoilt) => (pass, Step::Ends(ReceiveState::Stop)),
         Err(_) => (pass, Step::Ends(ReceiveState::Memory)),
     }
@@ -173,7 +227,8 @@ fn left_to_tell(allowance: Option<u64>, told: u64) -> Option<u64>
     }
 }
 
-/// Receives from the client, as far as a turn may that may tell so much, if there is a bound.
+/// Receives from the client, as far as a turn may that may tell so much, if there is a bound. Where all was received,
+/// the hold of the last lines may have drained for the client too.
 pub(crate) fn receive<R: Wait, L: Link, G: Gate>(
     rt: &R,
     conn: &mut Conn,
@@ -181,11 +236,14 @@ pub(crate) fn receive<R: Wait, L: Link, G: Gate>(
     desk: &GatedDesk<'_, G>,
     pass: Pass,
     allowance: Option<u64>,
-) -> (Pass, ReceiveState, Received)
+) -> (Pass, ReceiveState, Received, Option<Chunk>)
     requires desk { pass.desk ≡ desk.now.desk.now }
     requires fresh { IsFresh (L.wire link.old) }
-    ensures { Receives (snapshot conn.old (L.wire link.old) pass) (snapshot conn.new (L.wire link.new) result.0)
-        (share_of allowance result.2.told) result.1 result.2.wakes }
+    ensures receives { ReceivesThenDrains (snapshot conn.old (L.wire link.old) pass)
+        (snapshot conn.new (L.wire link.new) result.0) (share_of allowance result.2.told) result.1 result.2.wakes
+        result.3 }
+    ensures desk { result.0.desk ≡ pass.desk }
+    ensures number { result.0.worker.number ≡ pass.worker.number }
 {
     let mut pass = pass;
     let mut all = Received {
@@ -195,28 +253,43 @@ pub(crate) fn receive<R: Wait, L: Link, G: Gate>(
     let mut lines = 0;
     let mut reads = 0;
     let mut bytes = 0;
+    let mut looks = false;
+    let mut is_dry = false;
     while lines < LINES && reads < READS && bytes < BYTES {
         let left = Left {
             lines: LINES - lines,
             bytes: BYTES - bytes,
             told: left_to_tell(allowance, all.told),
+            looks,
+            is_dry,
         };
         let (next, step) = receive_next(rt, conn, link, desk, pass, left);
         pass = next;
+        looks = false;
         match step {
             Step::Said(said) => {
                 all = all.and(said.wakes, said.told);
                 lines += said.lines;
                 if said.refused {
-                    return (pass, ReceiveState::Memory, all);
+                    return (pass, ReceiveState::Memory, all, None);
                 }
+            }
+            Step::Drained(said, piece) => {
+                all = all.and(said.wakes, said.told);
+                return (pass, ReceiveState::All, all, Some(piece));
             }
             Step::Read(count) => {
                 reads += 1;
                 bytes += count;
+                looks = link.is_likely_empty();
             }
-            Step::Ends(state) => return (pass, state, all),
+            Step::Dry => {
+                reads += 1;
+                is_dry = true;
+            }
+            Step::Done => return (pass, ReceiveState::All, all, None),
+            Step::Ends(state) => return (pass, state, all, None),
         }
     }
-    (pass, stop_at_limit(conn), all)
+    (pass, stop_at_limit(conn), all, None)
 }

@@ -137,8 +137,8 @@ pub fn serve_within<R: Wait, L: Link, G: Gate>(
     ensures number { result.0.worker.number ≡ pass.worker.number }
 {
     let gated = GatedDesk { desk, gate };
-    let (pass, received, all) = receive(rt, conn, link, &gated, pass, allowance);
-    let (pass, sent) = send(rt, conn, link, &gated, pass);
+    let (pass, received, all, drained) = receive(rt, conn, link, &gated, pass, allowance);
+    let (pass, sent) = send(rt, conn, link, &gated, pass, drained);
     match state_of(link.last_got(), received, sent) {
         Some(state) => {
             let turn = Turn {
@@ -172,5 +172,5 @@ pub fn send_rest<R: Wait, L: Link, G: Gate>(
     ensures number { result.0.worker.number ≡ pass.worker.number }
 {
     let gated = GatedDesk { desk, gate };
-    send(rt, conn, link, &gated, pass)
+    send(rt, conn, link, &gated, pass, None)
 }

@@ -6,7 +6,7 @@ use Rattle.lobby_holds.proofs.Sayings.{says_counted, says_none, says_one, says_t
 use Rattle.lobby_holds.proofs.holds.say_lines.Goals as goal
 
 pub loop-lines-init : goal.loop-lines-init
-loop-lines-init g c = (λ wire. says_one _ _ _ _ _ _ (c.in-Ok.ensures.ok wire) c.in-Ok.ensures.unwritten, c.say_line.ensures.pass, omega (arith, c.in-Ok.ensures.count, ap length c.requires.new), omega arith)
+loop-lines-init g c = (λ wire. says_one _ _ _ _ _ _ (c.in-Ok.ensures.ok wire) c.in-Ok.ensures.unwritten, c.say_line.ensures.pass, omega (arith, c.in-Ok.ensures.count, ap length c.requires.new), omega arith, c.say_line.ensures.unfed)
 
 pub returns-in-Ok-None-clause-says : goal.returns-in-Ok-None-clause-says
 returns-in-Ok-None-clause-says g c = λ wire.
@@ -22,7 +22,7 @@ pub loop-lines-preserved : goal.loop-lines-preserved
 loop-lines-preserved g c =
     let one = from_some _ _ _ c.in-Ok-Some.field-0-is c.in-Ok-Some.ensures.says in
     let count = from_some _ _ _ c.in-Ok-Some.field-0-is c.in-Ok-Some.ensures.count in
-    (λ wire. says_then _ _ _ _ _ _ _ _ _ _ _ (c.loop-lines.invariant.0 wire) (one wire) c.union-wakes.ensures, c.say_next.ensures.pass ∙ c.loop-lines.invariant.1, omega (arith, count.0, c.loop-lines.invariant.2), omega (arith, count.0, count.1, c.loop-lines.invariant.2))
+    (λ wire. says_then _ _ _ _ _ _ _ _ _ _ _ (c.loop-lines.invariant.0 wire) (one wire) c.union-wakes.ensures, c.say_next.ensures.pass ∙ c.loop-lines.invariant.1, omega (arith, count.0, c.loop-lines.invariant.2), omega (arith, count.0, count.1, c.loop-lines.invariant.2), c.say_next.ensures.unfed ∙ c.loop-lines.invariant.4)
 
 pub returns-in-Err-clause-says : goal.returns-in-Err-clause-says
 returns-in-Err-clause-says g c = λ wire.

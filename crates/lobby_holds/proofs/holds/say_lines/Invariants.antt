@@ -10,3 +10,4 @@ invariant-loop-lines g l =
     ((wire : Wire) → SaysLines (snapshot l.fn.conn wire (pass_after l.fn.held)) (snapshot l.conn wire (pass_after l.held)) l.lines l.wakes l.fn.held.lobby.told l.held.lobby.told) × (l.held.pass ≡ l.fn.held.pass)
     × (length l.held.events ≡ l.lines)
     × (l.lines ≤ 32)
+    × (l.conn.unfed ≡ l.fn.conn.unfed)

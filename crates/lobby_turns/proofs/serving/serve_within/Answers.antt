@@ -7,14 +7,16 @@ use Rattle.lobby_turns.proofs.serving.serve_within.Goals as goal
 pub returns-in-Some-clause-turned : goal.returns-in-Some-clause-turned
 returns-in-Some-clause-turned g c =
     let e = c.in-Some.ensures in
+    let r = c.receive-pass.ensures.receives in
     let after = snapshot c.send-pass.new.conn (g.L.Link.wire c.send-pass.new.link) c.send-pass.result.0 in
-    turned_open _ _ _ _ _ _ _ _ c.receive-pass.ensures c.send-pass.ensures (e.goes_on (λ none. absurd (cc (none)))) (may_rest after _ _ _ c.last_got.result c.last_got.ensures e.idle e.again e.memory e.closed)
+    turned_open _ _ _ _ _ _ _ _ r.receives (c.send-pass.ensures.sends r.between r.behind) (e.goes_on (λ none. absurd (cc (none)))) (may_rest after _ _ _ c.last_got.result c.last_got.ensures e.idle e.again e.memory e.closed)
 
 pub returns-in-None-clause-turned : goal.returns-in-None-clause-turned
 returns-in-None-clause-turned g c =
     let wire = g.L.Link.wire c.send-pass.new.link in
     let after = snapshot c.send-pass.new.conn wire c.send-pass.result.0 in
-    rw c.note_end.ensures (turned_closed _ _ _ _ _ _ _ _ _ _ _ _ c.receive-pass.ensures c.send-pass.ensures
+    let r = c.receive-pass.ensures.receives in
+    rw c.note_end.ensures (turned_closed _ _ _ _ _ _ _ _ _ _ _ _ r.receives (c.send-pass.ensures.sends r.between r.behind)
     (must_shut after _ _ c.last_got.result c.last_got.ensures (c.in-None.ensures.shut refl)) refl refl (rw c.note_end.ensures at (c.close-pass.ensures.closes wire)) (λ small. omega (arith, c.saturating_add.ensures, small)))
 
 pub returns-in-None-clause-desk : goal.returns-in-None-clause-desk
