@@ -1,5 +1,6 @@
 -- What receiving from a client did.
-use Rattle.std.specs.Prelude.{◌≡◌, ◌≢◌, ◌⊎◌, ℕ, ◌+◌, ◌-◌, ◌*◌, ◌^◌, ◌<◌, ◌≤◌, true, false, List, [], length, Option, Some}
+use Rattle.std.specs.Prelude.{◌≡◌, ◌≢◌, ◌⊎◌, ℕ, ◌+◌, ◌-◌, ◌*◌, ◌^◌, ◌<◌, ◌≤◌, true, false, List, []}
+use Rattle.std.specs.Prelude.{length, Option, Some}
 use Rattle.std.specs.Option.{option_map}
 use Rattle.lobby_post.specs.Mask.{has_home}
 use Rattle.client_session.specs.declared.session.Next.TheVariants.{Nothing, Spoilt}
@@ -18,7 +19,8 @@ use Rattle.lobby_holds.specs.Talk.{AreTalk}
 use Rattle.lobby_holds.specs.Went.{Went}
 use Rattle.lobby_holds.specs.declared.holds.Chunk.{Chunk}
 use Rattle.lobby_holds.specs.declared.holds.Said.{Said}
-use Rattle.lobby_holds.specs.Holds.{AreSaid, DrainsBehind, DrainsRest, IsWithin, HasNoSpoiltNext, HasLoudNext, HasTold, StopsAt}
+use Rattle.lobby_holds.specs.Holds.{AreSaid, DrainsBehind, DrainsRest, IsWithin}
+use Rattle.lobby_holds.specs.Holds.{HasNoSpoiltNext, HasLoudNext, HasTold, StopsAt}
 
 -- So many reads were made, of so many bytes in all and 16,384 at most, and no write, and each failed at most once.
 -- Without a read its last answer is as it was. What is to be written is as it was

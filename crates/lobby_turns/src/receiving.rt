@@ -97,8 +97,8 @@ pub(crate) enum Step {
     Ends(ReceiveState),
 }
 
-/// Reads the link before the next line is said, so many bytes at most. It gave bytes before. So it is known, where it has
-/// no more, that nothing is left behind those lines, and the client is drained in the hold that says them.
+/// Reads the link before the next line is said, so many bytes at most. It gave bytes before. So it is known, where it
+/// has no more, that nothing is left behind those lines, and the client is drained in the hold that says them.
 fn look_ahead<L: Link>(conn: &mut Conn, link: &mut L, pass: Pass, most: usize) -> (Pass, Step)
     requires fed { conn.old.unfed ≡ [] }
     requires some { 1 ≤ most }
