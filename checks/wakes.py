@@ -11,14 +11,13 @@ import tempfile
 import time
 from pathlib import Path
 
-from lobby_server import Account, Client, Difference, Server, greeted
+from lobby_server import Account, Difference, Server, greeted
 
 HERE = Path(__file__).resolve().parent
 WORKERS = 4
 ACCOUNTS = [Account(f"P{number}", number) for number in range(1, 41)]
 # So many lines a speaker sends at once. A turn hears 64 of them.
 LINES, HEARD = 2_000, 64
-
 
 Calls = collections.namedtuple("Calls", "wakes polls sends")
 
@@ -55,7 +54,8 @@ def settle(clients):
             client.send(f"#{number} PING\n")
         for client in clients:
             while b"#%d PONG\n" % number not in client.heard:
-                client.receive()
+                if not client.receive():
+                    raise Difference(f"the server has ended a connection behind {bytes(client.heard[-200:])}")
     for client in clients:
         client.heard.clear()
 
