@@ -11,16 +11,16 @@ use Rattle.status_bits.specs.Fields.{Field, merge, with_number}
 use Rattle.status_bits.specs.BattleWord.{battle_table, team, ally, player, handicap}
 use Rattle.line_words.specs.Bytes.{is_text}
 use Rattle.line_words.specs.declared.lists.Pair.{Pair}
-use Rattle.line_words.specs.Table.{at_name, at_number, same_name, is_among}
+use Rattle.line_words.specs.Table.{at_name, at_number, is_among}
 use Rattle.channel_book.specs.Channels.{names_in}
 use Rattle.room_lists.specs.Tags.{keys_there}
 use Rattle.room_lists.specs.Units.{with_units, words_new, words_there}
-use Rattle.room_lists.specs.Room.{Room, Asker, new_room, has_member, with_status, status_of, colour_of, bot_of, with_bot, with_bot_status, without_bot, with_rect, without_rect, set_tags, remove_tags, disable_units, enable_units, enable_all, has_too_many_units, asker_of}
+use Rattle.room_lists.specs.Room.{Room, Asker, has_member, with_status, status_of, colour_of, bot_of, with_bot, with_bot_status, without_bot, with_rect, without_rect, set_tags, remove_tags, disable_units, enable_units, enable_all, has_too_many_units, asker_of}
 use Rattle.lobby_model.specs.State.{State, Battle, battle_of, asked_by, updated}
 use Rattle.lobby_model.specs.Texts.{already_in_channel, not_in_channel, no_such_user, already_in_battle, already_asking, no_number_left, no_such_battle, battle_is_locked, wrong_password, not_in_battle, not_the_founder, no_such_member, no_such_request, no_such_bot, not_your_bot, cannot_kick_yourself, bot_name_taken, too_many_bots, too_many_tags, too_many_units, fault_text}
 use Rattle.lobby_model.specs.Outcome.{Letter, Happening, Outcome, Refused, Done, tell, issuer, everyone, user, users, happens, done, only_told, refuse_if, message}
 use Rattle.lobby_model.specs.Channels.{joins, leaves, say_in_channel}
-use Rattle.lobby_model.specs.Battles.{change_room, change_info, members, opens, joins_battle, asks_to_join, joins_or_asks, is_authorising, let_into, turned_away, reason_or_default, asks_no_more, leaves_battle, in_battle, as_founder, lets_in, no_password, address, bot_line, rect_line, updated_line}
+use Rattle.lobby_model.specs.Battles.{change_room, change_info, members, new_battle, opens, joins_battle, asks_to_join, joins_or_asks, is_authorising, let_into, turned_away, reason_or_default, asks_no_more, leaves_battle, in_battle, as_founder, lets_in, address, bot_line, rect_line, updated_line}
 use Rattle.lobby_model.specs.Rooms.{new_bot, removed_line, disabled_line, enabled_line, with_member_of, force_number}
 use Rattle.lobby_model.specs.Commands.{answer}
 use Rattle.lobby_model.proofs.Checked as checked
@@ -109,29 +109,8 @@ pub data Deed (s : State) (c : ℕ) (me : List ℕ) : Command → Happening → 
       → battle_of s me ≡ None → asked_by s me ≡ None → (s.last_battle == 2147483647) ≡ false
       → Deed s c me
       (command.OpenBattle battle_type nat_type password port max_players game_hash rank map_hash engine_name engine_version map title game_name)
-      (opens me (s.last_battle + 1) (record {
-        info = record {
-          battle_type = battle_type;
-          nat_type = nat_type;
-          founder = me;
-          ip = address (at_number s.clients c);
-          port = port;
-          max_players = max_players;
-          passworded = not (same_name password no_password);
-          rank = rank;
-          map_hash = map_hash;
-          engine_name = engine_name;
-          engine_version = engine_version;
-          map = map;
-          title = title;
-          game_name = game_name;
-          spectators = 0;
-          locked = false;
-        };
-        password = password;
-        game_hash = game_hash;
-        room = new_room me;
-      }))
+      (opens me (s.last_battle + 1) (new_battle me (address (at_number s.clients c)) battle_type nat_type password port max_players game_hash rank map_hash engine_name
+      engine_version map title game_name))
   joins_one : (id : ℕ) (password script_password : Option (List ℕ)) (battle : Battle) → at_number s.battles id ≡ Some battle → battle_of s me ≡ None
       → asked_by s me ≡ None → Deed s c me (command.JoinBattle id password script_password) (joins_battle me id battle script_password)
   asks_one : (id : ℕ) (password script_password : Option (List ℕ)) (battle : Battle) → at_number s.battles id ≡ Some battle → battle_of s me ≡ None

@@ -1,5 +1,5 @@
 -- No event looks at unread bytes, save for how many they are: it comes to the same where some are blotted out.
-use Rattle.std.proofs.Common.{◌≡◌, ℕ, ◌+◌, ℤ, List, [], ◌∷◌, ◌++◌, refl, sym, ap, ◌∙◌, Bool, true, false, not}
+use Rattle.std.proofs.Common.{◌≡◌, ℕ, ◌+◌, ℤ, List, [], ◌∷◌, ◌++◌, refl, sym, ap, ◌∙◌, Bool, true, false}
 use Rattle.std.specs.Prelude.{Option, Some, None, ◌&&◌, nat_lt, if◌then◌else◌, is_some, Result, Ok, Err}
 use Rattle.command_grammar.specs.declared.command.Command.{Command}
 use Rattle.command_grammar.specs.declared.command.Command.TheVariants as command
@@ -8,15 +8,14 @@ use Rattle.reply_kinds.specs.Replies.{print_all}
 use Rattle.account_book.specs.Account.{Account}
 use Rattle.account_book.specs.Book.{login}
 use Rattle.account_book.specs.declared.error.LoginFault.{LoginFault}
-use Rattle.line_words.specs.Table.{ByNumber, at_number, at_name, same_name, without_number, same_number, map_values}
-use Rattle.room_lists.specs.Room.{new_room}
+use Rattle.line_words.specs.Table.{ByNumber, at_number, at_name, without_number, same_number, map_values}
 use Rattle.lobby_model.specs.declared.event.Event.{Event}
 use Rattle.lobby_model.specs.declared.event.Event.TheVariants as event
 use Rattle.lobby_model.specs.declared.event.Phase.TheVariants.{In, Ended}
 use Rattle.lobby_model.specs.State.{State, Client, hears, name_of, set_phase}
 use Rattle.lobby_model.specs.Texts.{user_is_in}
 use Rattle.lobby_model.specs.Outcome.{Outcome, Refused, Done, nothing, done, happens, all_after, state_after, letters_of, lines_for}
-use Rattle.lobby_model.specs.Battles.{open_battle, join_battle, no_password}
+use Rattle.lobby_model.specs.Battles.{new_battle, open_battle, join_battle}
 use Rattle.lobby_model.specs.Sessions.{log_in, logs_in, user_of, logs_out, departs, connects, has_place, disconnects}
 use Rattle.lobby_model.specs.Commands.{answer}
 use Rattle.lobby_model.specs.Events.{outcome, effect, issuer_of, under, line_id}
@@ -39,29 +38,8 @@ module _ (who : ℕ → Bool) (s : State) where
   answer_same c (Some me) command.Exit = refl
   answer_same c None (command.Login name password cpu local_ip lobby authorises) = login_same c cpu authorises (login s.accounts name password)
   answer_same c (Some me) (command.OpenBattle battle_type nat_type password port max_players game_hash rank map_hash engine_name engine_version map title game_name) =
-      ap (λ ip. open_battle s me (record {
-        info = record {
-          battle_type = battle_type;
-          nat_type = nat_type;
-          founder = me;
-          ip = ip;
-          port = port;
-          max_players = max_players;
-          passworded = not (same_name password no_password);
-          rank = rank;
-          map_hash = map_hash;
-          engine_name = engine_name;
-          engine_version = engine_version;
-          map = map;
-          title = title;
-          game_name = game_name;
-          spectators = 0;
-          locked = false;
-        };
-        password = password;
-        game_hash = game_hash;
-        room = new_room me;
-      })) (address_hidden who s c)
+      ap (λ ip. open_battle s me (new_battle me ip battle_type nat_type password port max_players game_hash rank map_hash engine_name engine_version
+      map title game_name)) (address_hidden who s c)
   answer_same c (Some me) (command.JoinBattle id password script_password) =
       ap (λ ip. join_battle s me ip id password script_password) (address_hidden who s c)
   answer_same c me command = refl

@@ -1,5 +1,5 @@
 -- A history and the one that its record is played as put the same bytes.
-use Rattle.std.proofs.Common.{◌≡◌, ℕ, zero, suc, ◌+◌, ℤ, List, [], ◌∷◌, ◌++◌, refl, sym, ap, ◌∙◌, Bool, true, false, not, T}
+use Rattle.std.proofs.Common.{◌≡◌, ℕ, zero, suc, ◌+◌, ℤ, List, [], ◌∷◌, ◌++◌, refl, sym, ap, ◌∙◌, Bool, true, false, T}
 use Rattle.std.specs.Prelude.{Option, Some, None, ◌&&◌, nat_lt, if◌then◌else◌, is_some, Result, Ok, Err, map, length, take, drop}
 use Rattle.std.specs.List.{AllByRecursion}
 use Rattle.std.specs.Ordering.{nat_cmp}
@@ -14,16 +14,15 @@ use Rattle.account_book.specs.Account.{Account}
 use Rattle.account_book.specs.Book.{login}
 use Rattle.account_book.specs.declared.error.LoginFault.{LoginFault}
 use Rattle.account_book.specs.declared.error.LoginFault.TheVariants.{NoAccount}
-use Rattle.line_words.specs.Table.{at_number, at_name, same_name, change_number, same_number, map_values}
+use Rattle.line_words.specs.Table.{at_number, at_name, change_number, same_number, map_values}
 use Rattle.line_words.proofs.Tables.{change_alike}
-use Rattle.room_lists.specs.Room.{new_room}
 use Rattle.lobby_model.specs.declared.event.Event.{Event}
 use Rattle.lobby_model.specs.declared.event.Event.TheVariants as event
 use Rattle.lobby_model.specs.declared.event.Phase.TheVariants.{In, Ended}
 use Rattle.lobby_model.specs.State.{State, Client, Battle, hears, name_of, asked_by, battle_of}
 use Rattle.lobby_model.specs.Texts.{user_is_in}
 use Rattle.lobby_model.specs.Outcome.{Happening, Outcome, Refused, Done, nothing, done, all_after, state_after, letters_of, lines_for}
-use Rattle.lobby_model.specs.Battles.{open_battle, join_battle, no_password, leaves_battle, leaves_own, drops_own}
+use Rattle.lobby_model.specs.Battles.{new_battle, open_battle, join_battle, leaves_battle, leaves_own, drops_own}
 use Rattle.lobby_model.specs.Sessions.{log_in, logs_in, user_of, logs_out, departs, connects, has_place, disconnects, ends, drained, is_gone, unseen}
 use Rattle.lobby_model.specs.Commands.{answer}
 use Rattle.lobby_model.specs.Events.{outcome, effect, issuer_of, under, line_id}
@@ -157,29 +156,8 @@ module _ (s : State) where
   answer_same c (Some me) (command.Join channel key) = refl
   answer_same c (Some me) (command.OpenBattle battle_type nat_type password port max_players game_hash rank map_hash
       engine_name engine_version map title game_name) =
-      ap (λ ip. open_battle s me (record {
-        info = record {
-          battle_type = battle_type;
-          nat_type = nat_type;
-          founder = me;
-          ip = ip;
-          port = port;
-          max_players = max_players;
-          passworded = not (same_name password no_password);
-          rank = rank;
-          map_hash = map_hash;
-          engine_name = engine_name;
-          engine_version = engine_version;
-          map = map;
-          title = title;
-          game_name = game_name;
-          spectators = 0;
-          locked = false;
-        };
-        password = password;
-        game_hash = game_hash;
-        room = new_room me;
-      })) (address_homed s.clients c)
+      ap (λ ip. open_battle s me (new_battle me ip battle_type nat_type password port max_players game_hash rank map_hash engine_name engine_version
+      map title game_name)) (address_homed s.clients c)
   answer_same c (Some me) (command.JoinBattle id password script_password) =
       ap (λ ip. join_battle s me ip id password script_password) (address_homed s.clients c)
   answer_same c me command = refl
