@@ -14,7 +14,7 @@ modes=${MODES:-bulk talk storm memory lf silent players}
 main=${LOBBY_MAIN:-$PWD/bin/lobby_main}
 [ -x "$main" ] || { echo "there is no $main: make build makes it"; exit 1; }
 ulimit -n "$(ulimit -Hn)"
-export MALLOC_MMAP_THRESHOLD_=16384 GOFLAGS=-trimpath GOPROXY=off GOTOOLCHAIN=local
+export MALLOC_MMAP_THRESHOLD_=8192 GOFLAGS=-trimpath GOPROXY=off GOTOOLCHAIN=local
 room=$(mktemp -d)
 started=()
 stop() {

@@ -15,7 +15,7 @@ main=${LOBBY_MAIN:-$PWD/bin/lobby_main}
 ngircd=$(PATH=$PATH:/usr/sbin type -P ngircd) || { echo 'there is no ngircd: apt-get install ngircd'; exit 0; }
 ulimit -n 8192
 # As `make serve` and the unit have it.
-export MALLOC_MMAP_THRESHOLD_=16384
+export MALLOC_MMAP_THRESHOLD_=8192
 room=$(mktemp -d)
 server=
 

@@ -32,7 +32,7 @@ done
 for program in "$main" "$before"; do [ -x "$program" ] || { echo "there is no $program: make build makes bin/lobby_main"; exit 1; }; done
 ulimit -n 8192
 # As `make serve` and the unit have it.
-export MALLOC_MMAP_THRESHOLD_=16384
+export MALLOC_MMAP_THRESHOLD_=8192
 room=$(mktemp -d)
 server=
 

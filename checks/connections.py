@@ -513,7 +513,7 @@ def crowded(workers):
     """A server with Anna and twenty more in a channel, where the twenty read nothing, and with Bert in none. The system gives it no more
     than 16 MB besides what it has then; it has one arena, since the C library takes 64 MB ahead for each that threads have of their own,
     and maps larger blocks apart, as the unit says. In the end the system has its memory back."""
-    words = {"MALLOC_ARENA_MAX": "1", "MALLOC_MMAP_THRESHOLD_": "16384"}
+    words = {"MALLOC_ARENA_MAX": "1", "MALLOC_MMAP_THRESHOLD_": "8192"}
     with Server(workers, [ANNA, BERT, *CROWD], "outbox_limit = 67108864\n", **words) as server:
         anna = logged_in(server, ANNA, [])
         anna.send("JOIN busy\n")

@@ -8,7 +8,7 @@ shift
 # The C library is to return large blocks at once, so that what a storm of logins took is given back. A record that meets a limit of
 # file sizes is to end, and not the server.
 if [ "${1:-}" = serve ]; then
-    export MALLOC_MMAP_THRESHOLD_=${MALLOC_MMAP_THRESHOLD_:-16384}
+    export MALLOC_MMAP_THRESHOLD_=${MALLOC_MMAP_THRESHOLD_:-8192}
     trap '' XFSZ
 fi
 if program=$("$root/tools/program.sh" "$name"); then exec "$program" "$@"; fi

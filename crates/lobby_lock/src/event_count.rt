@@ -6,7 +6,7 @@ use std::thread;
 
 /// So often a worker that finds the lobby taken lets others run before it sleeps: most holds are over
 /// by then, and a sleep costs several times such a hold.
-const YIELDS: u64 = 16;
+const YIELDS: u64 = 4;
 
 /// What the event count shows where a give has nobody to wake.
 const NOBODY: u64 = 0;
