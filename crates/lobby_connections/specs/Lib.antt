@@ -2,6 +2,7 @@ pub mod Attended
 pub mod Claims
 pub mod Gathered
 pub mod Had
+pub mod Joined
 pub mod Progress
 pub mod Rung
 pub mod Shown

@@ -22,7 +22,7 @@ use crate::serving::{self, Served};
 use crate::wire_link::WireLink;
 use lobby_lock::{Desk, Held, Pass};
 use lobby_machine::Wakes;
-use lobby_turns::{Buffers, Conn, Gate};
+use lobby_turns::{Buffers, Conn, Gate, Progress};
 use mio::event::Event;
 use mio::net::TcpStream;
 use mio::{Registry, Token};
@@ -46,8 +46,8 @@ const MUCH: u64 = 32_000;
 /// and again, and gives those a turn who are to get one: a poll told of it, it was named, it is new, or it stopped at a
 /// limit or for want of memory; and since then it had none.
 pub struct Connections {
-    alloc: Global,
-    slab: Slab<Seat>,
+    pub(crate) alloc: Global,
+    pub(crate) slab: Slab<Seat>,
     // the key of each client's connection, by the client's number
     keys: HashMap<u64, usize>,
     // the clients that the lobby named as changed in a hold, for whom is still to be looked; there is room for those of
@@ -82,7 +82,9 @@ pub struct Connections {
     // the most that this round tells
     round_most: u64,
     // buffers for who has its turn
-    buffers: Buffers,
+    pub(crate) buffers: Buffers,
+    // and for those whose turns share holds
+    pub(crate) more_buffers: Vec<Buffers>,
 }
 
 impl Drop for Connections {
@@ -109,6 +111,7 @@ impl Drop for Connections {
             told: _,
             round_most: _,
             buffers,
+            more_buffers,
         } = self;
         drop(slab);
         drop(keys);
@@ -118,6 +121,7 @@ impl Drop for Connections {
         drop(left);
         drop(lingering);
         drop(buffers);
+        drop(more_buffers);
     }
 }
 
@@ -166,6 +170,7 @@ impl Connections {
             told: 0,
             round_most: ROUND_MOST,
             buffers: Buffers::new(alloc),
+            more_buffers: Vec::new(alloc),
         }
     }
 
@@ -513,7 +518,7 @@ impl Connections {
             desk,
             pass,
             gate,
-            allowance,
+            Progress::new(Some(allowance)),
         )
     }
 

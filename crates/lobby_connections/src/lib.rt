@@ -18,6 +18,9 @@
 //! for further turns, and Bert's line has her named as changed. She gets every answer, with Bert's line once among
 //! them.
 //!
+//! Connections of which one poll told take their turns together ([`Together`]): their lines are said in as few holds of
+//! the lobby as can be.
+//!
 //! The crate also holds each client's link, the connections whose client is still to come, and those that linger.
 //! Whoever is to get a turn is noted, and a worker that waits without end has forgotten nobody (`specs/Attended.antt`).
 //! That a poll tells and a waker wakes is the system's word: `Lookout::wait` keeps what the poll told, and [`Wakers`]
@@ -33,6 +36,8 @@ mod newcomers;
 mod poll_timeout;
 mod seat;
 mod serving;
+mod sharing;
+mod together;
 mod waiting;
 mod wakers;
 mod wire_link;
@@ -45,6 +50,7 @@ pub use newcomers::{Fronted, Newcomers};
 pub use poll_timeout::PollTimeout;
 pub use seat::Claim;
 pub use serving::Served;
+pub use together::{TOGETHER, Together};
 pub use waiting::Waited;
 pub use wakers::{Rung, Wakers};
 pub use wire_link::WireLink;

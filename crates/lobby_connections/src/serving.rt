@@ -11,7 +11,8 @@ use crate::seat::Seat;
 use lobby_lock::{Desk, Pass};
 use lobby_machine::Wakes;
 use lobby_turns::{
-    Buffers, Gate, Link, SendState, Turn, TurnState, close, give_up_unread, send_rest, serve_within,
+    Buffers, Gate, Link, Progress, SendState, Turn, TurnState, close, finish, give_up_unread,
+    send_rest,
 };
 use slab::Slab;
 use std::marker::Model;
@@ -99,10 +100,9 @@ fn serve_or_shut<R: Wait, G: Gate>(
     desk: &Desk,
     pass: Pass,
     gate: &G,
-    allowance: u64,
+    progress: Progress,
 ) -> (Pass, Turn, u64)
     requires { pass.desk ≡ desk.now }
-    ensures client { connection.new.conn.session.client ≡ connection.old.conn.session.client }
     ensures desk { result.0.desk ≡ pass.desk }
     ensures number { result.0.worker.number ≡ pass.worker.number }
 {
@@ -110,7 +110,7 @@ fn serve_or_shut<R: Wait, G: Gate>(
         close(rt, &connection.conn, desk, pass, gate, Wakes::none())
     } else {
         let (conn, link) = (&mut connection.conn, &mut connection.link);
-        serve_within(rt, conn, link, desk, pass, gate, Some(allowance))
+        finish(rt, conn, link, desk, pass, gate, progress)
     };
     if turn.state != TurnState::Memory || !connection.refuse() {
         return (pass, turn, told);
@@ -129,7 +129,7 @@ pub(crate) fn serve<R: Wait, G: Gate>(
     desk: &Desk,
     pass: Pass,
     gate: &G,
-    allowance: u64,
+    progress: Progress,
 ) -> (Pass, Option<Served>)
     requires { pass.desk ≡ desk.now }
     ensures notes { KeepsNotes seats.old seats.new }
@@ -144,7 +144,7 @@ pub(crate) fn serve<R: Wait, G: Gate>(
     let connection = &mut seat.connection;
     connection.conn.lend(buffers);
     let client = connection.conn.client();
-    let (pass, turn, told) = serve_or_shut(rt, connection, desk, pass, gate, allowance);
+    let (pass, turn, told) = serve_or_shut(rt, connection, desk, pass, gate, progress);
     let served = Served {
         key,
         client,

@@ -203,6 +203,10 @@ impl Link for WireLink {
         got
     }
 
+    fn is_likely_empty(&self) -> bool {
+        !self.is_readable
+    }
+
     fn write(&mut self, from: &[u8]) -> Sent {
         self.writes += 1;
         let sent = try_write(&mut self.stream, from);

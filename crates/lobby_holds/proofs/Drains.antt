@@ -20,7 +20,7 @@ use Rattle.lobby_lock.specs.Passes.{ShownPass, ShownHold, pass_after}
 use Rattle.lobby_holds.specs.declared.holds.Chunk.{Chunk}
 use Rattle.lobby_holds.specs.Wire.{Wire}
 use Rattle.lobby_holds.specs.Moments.{Moment, moment, questioned, questions, drained_for, tells_end, told_end}
-use Rattle.lobby_holds.specs.Snapshot.{Carried, snapshot}
+use Rattle.lobby_holds.specs.Snapshot.{Carried, among}
 use Rattle.lobby_holds.specs.Talk.{AreDrains}
 use Rattle.lobby_holds.specs.Went.{Joined, Went}
 use Rattle.lobby_holds.specs.Holds.{IsTaken, Stands, Drains, Asks, DrainedInto, DrainedBehind, GivesUp}
@@ -91,19 +91,36 @@ hold_length : (k : ShownHold) (q : ShownPass) → q ≡ pass_after k → length 
 hold_length k q is = ap (λ (x : ShownPass). length x.worker.mine) is ∙ length-append k.pass.worker.mine k.events
 
 -- the whole hold, from the take to the give, for a connection that had nothing to write
-pub drains_held : (old new : Carried) (wire : Wire) (p q : ShownPass) (h k : ShownHold) (c : ℕ) (before after : List ℕ) (piece : Chunk) → IsTaken p h → q ≡ pass_after k
+pub drains_held : (o : List ℕ) (old new : Carried) (wire : Wire) (p q : ShownPass) (h k : ShownHold) (c : ℕ) (before after : List ℕ) (piece : Chunk) → IsTaken p h → q ≡ pass_after k
     → h.events ≡ [] → k.pass ≡ h.pass → length k.events ≤ 8
     → c ≡ old.session.client → DrainedBehind (pass_after h) (pass_after k) c before after piece → new.session ≡ old.session → new.unfed ≡ old.unfed
-    → old.unwritten ≡ before → new.unwritten ≡ after → Drains (snapshot old wire p) (snapshot new wire q) piece.finished piece.dry
-drains_held old new wire p q h k c before after piece taken is fresh still few same d session unfed none unwritten =
+    → old.unwritten ≡ before → new.unwritten ≡ after → Drains (among o old wire p) (among o new wire q) piece.finished piece.dry
+drains_held o old new wire p q h k c before after piece taken is fresh still few same d session unfed none unwritten =
     let e : DrainedBehind (pass_after h) q old.session.client before after piece =
     subst (λ (x : ShownPass). DrainedBehind (pass_after h) x old.session.client before after piece) (sym is) (subst (λ (x : ℕ). DrainedBehind (pass_after h) (pass_after k) x before after piece) same d) in
     record {
       talk = e.talk;
-      went = went_drains old new wire p q e.talk e.own session unfed (unwritten ∙ e.bytes ∙ ap (λ l. l ++ drained_for old.session.client e.talk) (sym none))
+      went = went_drains o old new wire p q e.talk e.own session unfed (unwritten ∙ e.bytes ∙ ap (λ l. l ++ drained_for old.session.client e.talk) (sym none))
           (joined_then p (pass_after h) q [] e.talk (held_none p (pass_after h) h h taken refl refl) e.joined);
       own = e.own;
       few = omega (arith, talk_length (pass_after h) q e.talk e.joined, hold_length k q is, length-append h.pass.worker.mine h.events, ap length fresh, ap (λ (x : ShownPass). length x.worker.mine) still, few);
+      no_question = e.no_question;
+      finished_is = e.finished_is;
+      dry_is = e.dry_is;
+    }
+
+-- drains behind what was said, in a hold that goes on
+pub drains_behind : (o : List ℕ) (old new : Carried) (wire : Wire) (h k : ShownHold) (c : ℕ) (before after : List ℕ) (piece : Chunk) → k.pass ≡ h.pass → length k.events ≤ length h.events + 8
+    → c ≡ old.session.client → DrainedBehind (pass_after h) (pass_after k) c before after piece → new.session ≡ old.session → new.unfed ≡ old.unfed
+    → old.unwritten ≡ before → new.unwritten ≡ after → Drains (among o old wire (pass_after h)) (among o new wire (pass_after k)) piece.finished piece.dry
+drains_behind o old new wire h k c before after piece still few same d session unfed none unwritten =
+    let e : DrainedBehind (pass_after h) (pass_after k) old.session.client before after piece =
+    subst (λ (x : ℕ). DrainedBehind (pass_after h) (pass_after k) x before after piece) same d in
+    record {
+      talk = e.talk;
+      went = went_drains o old new wire (pass_after h) (pass_after k) e.talk e.own session unfed (unwritten ∙ e.bytes ∙ ap (λ l. l ++ drained_for old.session.client e.talk) (sym none)) e.joined;
+      own = e.own;
+      few = omega (arith, talk_length (pass_after h) (pass_after k) e.talk e.joined, hold_length k (pass_after k) refl, hold_length h (pass_after h) refl, ap (λ (x : ShownPass). length x.worker.mine) still, few);
       no_question = e.no_question;
       finished_is = e.finished_is;
       dry_is = e.dry_is;
@@ -119,17 +136,17 @@ take_none n xs few =
     ap (λ k. take k xs) none
 
 -- asked with an empty slice
-pub asks : (conn : Carried) (wire : Wire) (p q : ShownPass) (c : ℕ) (into : List ℕ) (piece : Chunk) → c ≡ conn.session.client
-    → DrainedInto p q c 0 into piece → Asks (snapshot conn wire p) (snapshot conn wire q) piece.finished
-asks conn wire p q c into piece same d =
+pub asks : (o : List ℕ) (conn : Carried) (wire : Wire) (p q : ShownPass) (c : ℕ) (into : List ℕ) (piece : Chunk) → c ≡ conn.session.client
+    → DrainedInto p q c 0 into piece → Asks (among o conn wire p) (among o conn wire q) piece.finished
+asks o conn wire p q c into piece same d =
     let e : DrainedInto p q conn.session.client 0 into piece = subst (λ (x : ℕ). DrainedInto p q x 0 into piece) same d in
     let nothing : drained_for conn.session.client e.talk ≡ [] = sym e.bytes ∙ take_none piece.count into e.within in
     let question : Moment = moment e.begins.0 (event.Drain conn.session.client 0) in
     let alone : e.talk ≡ question ∷ [] = e.begins.2 ∙ ap (λ l. question ∷ l) (e.once refl) in
     record {
       met = e.begins.0;
-      went = subst (λ (t : List Moment). Went (snapshot conn wire p) (snapshot conn wire q) t) alone
-          (went_drains conn conn wire p q e.talk e.own refl refl (sym (append-nil conn.unwritten) ∙ ap (λ l. conn.unwritten ++ l) (sym nothing)) e.joined);
+      went = subst (λ (t : List Moment). Went (among o conn wire p) (among o conn wire q) t) alone
+          (went_drains o conn conn wire p q e.talk e.own refl refl (sym (append-nil conn.unwritten) ∙ ap (λ l. conn.unwritten ++ l) (sym nothing)) e.joined);
       finished_is = sym (or-false (tells_end e.begins.0 (event.Drain conn.session.client 0))) ∙ ap told_end (sym alone) ∙ e.finished_is;
     }
 

@@ -1,5 +1,6 @@
 pub mod Moments
 pub mod Joins
+pub mod Among
 pub mod Lines
 pub mod Nexts
 pub mod Parts

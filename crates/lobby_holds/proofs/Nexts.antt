@@ -26,6 +26,15 @@ next_spoilt session ready is none e = λ bytes accepted heard.
     (λ some. none (subst (λ (o : Option (List ℕ)). IsSome o) (sym (same_line session bytes accepted heard)) some))
     (sym (is bytes accepted heard) ∙ e)
 
+nothing_at : (o : Option (List ℕ)) (bytes : List ℕ) → (is_some o || is_spoilt bytes line_limit) ≡ false → NextAt o bytes Nothing
+nothing_at None bytes e = e
+nothing_at (Some line) bytes e = absurd (true≢false e)
+
+-- nothing is next
+pub next_nothing : (session : Serving) (ready : Bool) → ((bytes : List ℕ) (accepted : ℕ) → Heard session.framed bytes accepted → ready ≡ has_next bytes accepted)
+    → ready ≡ false → IsNextOf (Some session) Nothing
+next_nothing session ready is e = λ bytes accepted heard. nothing_at (slice_get (frames bytes line_limit) accepted) bytes (sym (is bytes accepted heard) ∙ e)
+
 sound_at : (o : Option (List ℕ)) (bytes : List ℕ) → (is_some o || is_spoilt bytes line_limit) ≡ false → NextAt o bytes Spoilt → ⊥
 sound_at None bytes e next = true≢false (sym next ∙ e)
 sound_at (Some line) bytes e next = next
@@ -41,6 +50,9 @@ not_behind_line (Some line) bytes some next = next
 pub line_first : (session : Serving) → IsSome (next_line session.framed) → HasNoSpoiltNext session
 line_first session line = λ bytes accepted heard.
     not_behind_line (slice_get (frames bytes line_limit) accepted) bytes (subst (λ (o : Option (List ℕ)). IsSome o) (same_line session bytes accepted heard) line)
+
+pub line_is_next : (session : Serving) → IsSome (next_line session.framed) → HasLineNext session
+line_is_next session line = λ bytes accepted heard. subst (λ (o : Option (List ℕ)). IsSome o) (same_line session bytes accepted heard) line
 
 pub line_is_sound : (session : Serving) → HasLineNext session → HasNoSpoiltNext session
 line_is_sound session line = λ bytes accepted heard. not_behind_line (slice_get (frames bytes line_limit) accepted) bytes (line bytes accepted heard)

@@ -12,12 +12,13 @@ use Rattle.client_session.specs.Serving.{Serving}
 use Rattle.client_session.specs.declared.session.Next.TheVariants.{Line}
 use Rattle.client_session.specs.OneSession.{HasLineNext, IsNextOf}
 use Rattle.client_session.proofs.Lines.{asks_line}
+use Rattle.lobby_holds.specs.declared.holds.Chunk.{Chunk}
 use Rattle.lobby_holds.specs.declared.holds.Said.{Said}
 use Rattle.lobby_holds.specs.Wire.{Wire}
 use Rattle.lobby_holds.specs.Moments.{Moment, moment, requests, told_behind, touched}
 use Rattle.lobby_holds.proofs.Counted.{counted_from_none, told_behind-append}
-use Rattle.lobby_holds.specs.Snapshot.{Carried, Snapshot, snapshot}
-use Rattle.lobby_holds.specs.Holds.{IsTaken, Made, AreSaid, SaysLines, HasNoLineNext, HasLoudNext, HasTold, StopsAt, short, all_said, none_left, full, enough}
+use Rattle.lobby_holds.specs.Snapshot.{Carried, Snapshot, among}
+use Rattle.lobby_holds.specs.Holds.{IsTaken, Made, AreSaid, SaysLines, SaysThenDrains, HasNoLineNext, HasLoudNext, HasTold, StopsAt, short, all_said, none_left, full, enough}
 use Rattle.lobby_holds.proofs.Joins.{held_none}
 use Rattle.lobby_holds.proofs.Parts.{requests-append, went_none, went_then, went_held}
 use Rattle.lobby_holds.proofs.Talks.{are_talk-append, touched-append, calm-append}
@@ -72,10 +73,10 @@ says_then a b c m n wakes more all x y z h k both = record {
 }
 
 -- a refused line leaves what there was
-pub says_still : (a : Snapshot) (x y : Carried) (wire : Wire) (h k : ShownHold) (lines wakes before after : ℕ) → (y ≡ x) × (k ≡ h)
-    → SaysLines a (snapshot x wire (pass_after h)) lines wakes before after → SaysLines a (snapshot y wire (pass_after k)) lines wakes before after
-says_still a x y wire h k lines wakes before after same s =
-    subst (λ (z : Carried × ShownHold). SaysLines a (snapshot z.0 wire (pass_after z.1)) lines wakes before after) (λ i. (sym same.0 i, sym same.1 i)) s
+pub says_still : (o : List ℕ) (a : Snapshot) (x y : Carried) (wire : Wire) (h k : ShownHold) (lines wakes before after : ℕ) → (y ≡ x) × (k ≡ h)
+    → SaysLines a (among o x wire (pass_after h)) lines wakes before after → SaysLines a (among o y wire (pass_after k)) lines wakes before after
+says_still o a x y wire h k lines wakes before after same s =
+    subst (λ (z : Carried × ShownHold). SaysLines a (among o z.0 wire (pass_after z.1)) lines wakes before after) (λ i. (sym same.0 i, sym same.1 i)) s
 
 -- the lobby's count went on from x to y, which were read as numbers of 64 bits
 pub says_counted : (a b : Snapshot) (lines wakes x y before now told : ℕ) → before ≡ x → now ≡ y → before < 2 ^ 64
@@ -94,16 +95,27 @@ says_counted a b lines wakes x y before now told first last small is s = record 
   unwritten = s.unwritten;
 }
 
+-- what a hold said, from the take on
+says_after : (o : List ℕ) (old : Carried) (wire : Wire) (p : ShownPass) (h : ShownHold) (b : Snapshot) (lines wakes before after : ℕ) → IsTaken p h
+    → SaysLines (among o old wire (pass_after h)) b lines wakes before after → SaysLines (among o old wire p) b lines wakes before after
+says_after o old wire p h b lines wakes before after taken s = record {
+  talk = s.talk;
+  went = went_then (among o old wire p) (among o old wire (pass_after h)) b [] s.talk (went_held o old wire p (pass_after h) (held_none p (pass_after h) h h taken refl refl)) s.went;
+  said = s.said;
+  unwritten = s.unwritten;
+}
+
 -- the whole hold, from the take to the give
-pub says_held : (old new : Carried) (wire : Wire) (p q : ShownPass) (h k : ShownHold) (lines wakes before after : ℕ) → IsTaken p h → q ≡ pass_after k
-    → SaysLines (snapshot old wire (pass_after h)) (snapshot new wire (pass_after k)) lines wakes before after
-    → SaysLines (snapshot old wire p) (snapshot new wire q) lines wakes before after
-says_held old new wire p q h k lines wakes before after taken is s =
-    subst (λ (x : ShownPass). SaysLines (snapshot old wire p) (snapshot new wire x) lines wakes before after) (sym is) (record {
-      talk = s.talk;
-      went = went_then (snapshot old wire p) (snapshot old wire (pass_after h)) (snapshot new wire (pass_after k)) [] s.talk (went_held old wire p (pass_after h) (held_none p (pass_after h) h h taken refl refl)) s.went;
-      said = s.said;
-      unwritten = s.unwritten;
+pub says_then_drains_held : (o : List ℕ) (old new : Carried) (wire : Wire) (p q : ShownPass) (h k : ShownHold) (said : Said) (drained : Option Chunk) → IsTaken p h → q ≡ pass_after k
+    → SaysThenDrains (among o old wire (pass_after h)) (among o new wire (pass_after k)) said drained
+    → SaysThenDrains (among o old wire p) (among o new wire q) said drained
+says_then_drains_held o old new wire p q h k said drained taken is s =
+    subst (λ (x : ShownPass). SaysThenDrains (among o old wire p) (among o new wire x) said drained) (sym is) (record {
+      between = s.between;
+      says = says_after o old wire p h s.between said.lines said.wakes 0 said.told taken s.says;
+      wire = s.wire;
+      unfed = s.unfed;
+      behind = s.behind;
     })
 
 -- ---- why no more is said
@@ -112,24 +124,24 @@ says_held old new wire p q h k lines wakes before after taken is s =
 pub refused_line : (x y : Carried) (request : Request) → y ≡ x → IsNextOf (Some x.session) (Line request) → HasLineNext y.session
 refused_line x y request same next = subst (λ (z : Carried). HasLineNext z.session) (sym same) (asks_line x.session request next)
 
-pub stops_none : (most : ℕ) (allowance : Option ℕ) (is_enough : Bool) (session : Serving) (said : Said) (events : List Event) → said.refused ≡ false → length events ≡ said.lines → said.lines ≤ 32
+pub stops_none : (most : ℕ) (allowance : Option ℕ) (is_enough : Bool) (session : Serving) (said : Said) (events : List Event) (count : ℕ) → count ≡ length events → said.refused ≡ false
     → (is_enough ≡ true → HasTold allowance said.told)
-    → (32 ≤ length events) ⊎ (HasNoLineNext session ⊎ ((is_enough ≡ true) × HasLoudNext session)) → StopsAt most allowance session said
-stops_none most allowance is_enough session said events accepted lines few told (inl many) = full accepted (omega (arith, lines, few, many))
-stops_none most allowance is_enough session said events accepted lines few told (inr (inl none)) = none_left accepted none
-stops_none most allowance is_enough session said events accepted lines few told (inr (inr next)) = enough accepted (told next.0) next.1
+    → (32 ≤ length events) ⊎ (HasNoLineNext session ⊎ ((is_enough ≡ true) × HasLoudNext session)) → StopsAt most allowance session count said
+stops_none most allowance is_enough session said events count counts accepted told (inl many) = full accepted (omega (arith, counts, many))
+stops_none most allowance is_enough session said events count counts accepted told (inr (inl none)) = none_left accepted none
+stops_none most allowance is_enough session said events count counts accepted told (inr (inr next)) = enough accepted (told next.0) next.1
 
 -- what is not quiet is a line
 pub loud_is_line : (session : Serving) → HasLoudNext session → HasLineNext session
 loud_is_line session loud = asks_line session loud.0 loud.1
 
 -- what a hold stopped at refused tells what is next
-pub stays_next : (most : ℕ) (allowance : Option ℕ) (session : Serving) (said : Said) → StopsAt most allowance session said → said.refused ≡ true → HasLineNext session
-stays_next most allowance session said (short refused next) is = next
-stays_next most allowance session said (all_said accepted e) is = absurd (true≢false (sym is ∙ accepted))
-stays_next most allowance session said (none_left accepted e) is = absurd (true≢false (sym is ∙ accepted))
-stays_next most allowance session said (full accepted e) is = absurd (true≢false (sym is ∙ accepted))
-stays_next most allowance session said (enough accepted told next) is = absurd (true≢false (sym is ∙ accepted))
+pub stays_next : (most : ℕ) (allowance : Option ℕ) (session : Serving) (events : ℕ) (said : Said) → StopsAt most allowance session events said → said.refused ≡ true → HasLineNext session
+stays_next most allowance session events said (short refused next) is = next
+stays_next most allowance session events said (all_said accepted e) is = absurd (true≢false (sym is ∙ accepted))
+stays_next most allowance session events said (none_left accepted e) is = absurd (true≢false (sym is ∙ accepted))
+stays_next most allowance session events said (full accepted e) is = absurd (true≢false (sym is ∙ accepted))
+stays_next most allowance session events said (enough accepted told next) is = absurd (true≢false (sym is ∙ accepted))
 
 -- what a clause says of a value that is known
 pub from_some : {A : Type 0} (o : Option A) (x : A) (P : A → Type 0) → o ≡ Some x → IfSome o P → P x

@@ -1,5 +1,5 @@
 -- What a hold of a turn did.
-use Rattle.std.specs.Prelude.{◌≡◌, ◌⊎◌, ℕ, ◌<◌, ◌≤◌, Bool, true, false, List, [], ◌∷◌, ◌++◌, length, take, Option}
+use Rattle.std.specs.Prelude.{◌≡◌, ◌≢◌, ◌⊎◌, ℕ, ◌<◌, ◌≤◌, Bool, true, false, List, [], ◌∷◌, ◌++◌, length, take, Option}
 use Rattle.std.specs.Prelude.{Some, None}
 use Rattle.command_grammar.specs.declared.command.Command.{Command}
 use Rattle.command_grammar.specs.declared.command.Command.TheVariants as command
@@ -17,6 +17,8 @@ use Rattle.client_session.specs.Serving.{Serving}
 use Rattle.client_session.specs.declared.session.Next.TheVariants.{Line, Nothing, Spoilt}
 use Rattle.client_session.specs.OneSession.{HasLineNext, IsNextOf}
 use Rattle.client_session.specs.Sessions.{Heard, IsNext}
+use Rattle.lobby_holds.specs.declared.conn.Ahead.{Ahead}
+use Rattle.lobby_holds.specs.declared.conn.Ahead.TheVariants as ahead
 use Rattle.lobby_holds.specs.declared.holds.Said.{Said}
 use Rattle.lobby_holds.specs.declared.holds.Chunk.{Chunk}
 use Rattle.lobby_holds.specs.Moments.{Moment, moment, requests, questions, drained_for, touched, tells_end, told_behind}
@@ -73,6 +75,12 @@ abbrev pub HasNoSpoiltNext : Serving → Type 0
 HasNoSpoiltNext session = (bytes : List ℕ) (accepted : ℕ) → Heard session.framed bytes accepted
     → IsNext bytes accepted Spoilt → ⊥
 
+-- so much is known of what is next
+abbrev pub IsAhead : Ahead → Serving → Type 0
+IsAhead ahead.Line session = HasLineNext session
+IsAhead ahead.Nothing session = IsNextOf (Some session) Nothing
+IsAhead ahead.Spoilt session = IsNextOf (Some session) Spoilt
+
 -- no whole line is next
 abbrev pub HasNoLineNext : Serving → Type 0
 HasNoLineNext session = IsNextOf (Some session) Nothing ⊎ IsNextOf (Some session) Spoilt
@@ -94,16 +102,16 @@ abbrev pub HasTold : Option ℕ → ℕ → Type 0
 HasTold None told = ⊥
 HasTold (Some most) told = most ≤ told
 
--- Why it said no line more: memory was refused for the line that is next, or nothing was refused, and all that were
--- asked for were said, no whole line is next, the hold is full, or as much was told as may be and the line that is next
--- is not quiet
-pub data StopsAt (most : ℕ) (allowance : Option ℕ) (session : Serving) (said : Said) : Type 0 where
-  short : said.refused ≡ true → HasLineNext session → StopsAt most allowance session said
-  all_said : said.refused ≡ false → said.lines ≡ most → StopsAt most allowance session said
-  none_left : said.refused ≡ false → HasNoLineNext session → StopsAt most allowance session said
-  full : said.refused ≡ false → said.lines ≡ 32 → StopsAt most allowance session said
+-- Why it said no line more in a hold that has so many events: memory was refused for the line that is next, or nothing
+-- was refused, and all that were asked for were said, no whole line is next, the hold is full, or as much was told as
+-- may be and the line that is next is not quiet
+pub data StopsAt (most : ℕ) (allowance : Option ℕ) (session : Serving) (events : ℕ) (said : Said) : Type 0 where
+  short : said.refused ≡ true → HasLineNext session → StopsAt most allowance session events said
+  all_said : said.refused ≡ false → said.lines ≡ most → StopsAt most allowance session events said
+  none_left : said.refused ≡ false → HasNoLineNext session → StopsAt most allowance session events said
+  full : said.refused ≡ false → 32 ≤ events → StopsAt most allowance session events said
   enough : said.refused ≡ false → HasTold allowance said.told → HasLoudNext session
-      → StopsAt most allowance session said
+      → StopsAt most allowance session events said
 
 -- it drained for its client, eight times at most and never into an empty slice: whether nothing will ever come of it;
 -- where it is dry, the last drain gave nothing
@@ -115,6 +123,29 @@ pub record Drains (old new : Snapshot) (finished dry : Bool) : Type 0 where
   pub no_question : questions talk ≡ []
   pub finished_is : told_end talk ≡ finished
   pub dry_is : dry ≡ true → EndsDry old.conn.session.client talk
+
+-- it drained where nothing is next and all that was drained before was written
+pub record DrainsRest (old new : Snapshot) (piece : Chunk) : Type 0 where
+  pub drains : Drains old new piece.finished piece.dry
+  pub came : piece.dry ≡ false → new.conn.unwritten ≢ []
+  pub written : old.conn.unwritten ≡ []
+  pub nothing : IsNextOf (Some old.conn.session) Nothing
+  pub session : new.conn.session ≡ old.conn.session
+  pub unfed : new.conn.unfed ≡ old.conn.unfed
+  pub wire : new.wire ≡ old.wire
+
+-- it drained so behind what was said, or did nothing
+abbrev pub DrainsBehind : Snapshot → Snapshot → Option Chunk → Type 0
+DrainsBehind old new None = new ≡ old
+DrainsBehind old new (Some piece) = DrainsRest old new piece
+
+-- it said so many of the next lines to the lobby, and may have drained behind them
+pub record SaysThenDrains (old new : Snapshot) (said : Said) (drained : Option Chunk) : Type 0 where
+  pub between : Snapshot
+  pub says : SaysLines old between said.lines said.wakes 0 said.told
+  pub wire : between.wire ≡ old.wire
+  pub unfed : between.conn.unfed ≡ old.conn.unfed
+  pub behind : DrainsBehind between new drained
 
 -- it drained into an empty slice and did nothing else, which tells whether nothing will ever come of its client
 pub record Asks (old new : Snapshot) (finished : Bool) : Type 0 where

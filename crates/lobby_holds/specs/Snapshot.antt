@@ -1,5 +1,5 @@
 -- What a turn goes on with.
-use Rattle.std.specs.Prelude.{◌≡◌, ℕ, List, ◌++◌, Some}
+use Rattle.std.specs.Prelude.{◌≡◌, ℕ, List, [], ◌++◌, Some}
 use Rattle.lobby_lock.specs.Passes.{ShownPass}
 use Rattle.client_session.specs.Serving.{Serving}
 use Rattle.client_session.specs.Sessions.{Heard}
@@ -12,14 +12,20 @@ pub record Carried : Type 0 where
   pub unfed : List ℕ
   pub unwritten : List ℕ
 
--- a connection, its link, and the pass of the worker that serves it
+-- A connection, its link, and the pass of the worker that serves it. The worker may serve these other clients
+-- meanwhile, whose turns share its holds
 pub record Snapshot : Type 0 where
   pub conn : Carried
   pub wire : Wire
   pub pass : ShownPass
+  pub others : List ℕ
 
+abbrev pub among : List ℕ → Carried → Wire → ShownPass → Snapshot
+among others conn wire pass = record { conn = conn; wire = wire; pass = pass; others = others }
+
+-- the worker serves nobody else meanwhile
 abbrev pub snapshot : Carried → Wire → ShownPass → Snapshot
-snapshot conn wire pass = record { conn = conn; wire = wire; pass = pass }
+snapshot conn wire pass = among [] conn wire pass
 
 -- These bytes were fed to the session, so many of its lines were accepted, and these bytes were drained for its client:
 -- what the link told as read is what was fed and then what is to be fed, and what was drained is what the link told as

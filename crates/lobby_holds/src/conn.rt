@@ -3,13 +3,13 @@
 ghost use Rattle.std.specs.Prelude.{◌≡◌, ◌≢◌, ◌↔◌, ◌+◌, ◌≤◌, ℕ, List, [], ◌++◌, length, drop, OnOk, OnErr, IfOk};
 ghost use Rattle.std.specs.Prelude.{IsTrue, Some, true, false};
 ghost use Rattle.lobby_lock.specs.Passes.{ShownPass};
-ghost use Rattle.client_session.specs.declared.session.Next.TheVariants.{Spoilt};
+ghost use Rattle.client_session.specs.declared.session.Next.TheVariants.{Nothing, Spoilt};
 ghost use Rattle.client_session.specs.OneSession.{Accepted, HasLineNext, IsNextOf};
 ghost use Rattle.client_session.specs.Sessions.{Heard, KeepsKinds};
 ghost use Rattle.lobby_holds.specs.Wire.{Wire, ReadsBytes, MayGoOn, got_count};
-ghost use Rattle.lobby_holds.specs.Snapshot.{snapshot, Carries};
+ghost use Rattle.lobby_holds.specs.Snapshot.{among, snapshot, Carries};
 ghost use Rattle.lobby_holds.specs.Went.{Went};
-ghost use Rattle.lobby_holds.specs.Holds.{HasNoSpoiltNext};
+ghost use Rattle.lobby_holds.specs.Holds.{HasNoSpoiltNext, IsAhead};
 
 use crate::buffer::{Buffer, Buffers, PIECE};
 use crate::gate::Gate;
@@ -23,6 +23,17 @@ use lobby_machine::LoginAnswer;
 use server_log::{Cause, Happening};
 use std::alloc::{AllocError, Global};
 use std::marker::Model;
+
+/// What is next of a client's lines.
+#[derive(Clone, Copy)]
+pub enum Ahead {
+    /// A whole line.
+    Line,
+    /// Nothing yet.
+    Nothing,
+    /// A place that is spoilt for ever.
+    Spoilt,
+}
 
 /// The connection of one client: its session, and the bytes that are on their way. Contracts see
 /// those that were read and not yet fed, and those that were drained and not yet written. In a turn it
@@ -77,6 +88,19 @@ impl Conn {
         self.session.next_request()
     }
 
+    /// What is next. It reads no request and takes no memory.
+    pub fn ahead(&self) -> Ahead
+        ensures { IsAhead result self.now.session }
+    {
+        if self.session.has_line() {
+            Ahead::Line
+        } else if self.session.is_ready() {
+            Ahead::Spoilt
+        } else {
+            Ahead::Nothing
+        }
+    }
+
     /// Whether a spoilt place is next. It reads no request and takes no memory.
     pub fn is_spoilt_next(&self) -> bool
         ensures spoilt { result ≡ true → IsNextOf (Some self.now.session) Spoilt }
@@ -88,11 +112,25 @@ impl Conn {
         self.session.is_ready()
     }
 
+    /// Whether neither a line nor a spoilt place is next.
+    pub(crate) fn has_nothing_next(&self) -> bool
+        ensures { result ≡ true → IsNextOf (Some self.now.session) Nothing }
+    {
+        !self.session.is_ready()
+    }
+
     /// What was drained and not yet written.
     pub fn rest(&self) -> &[u8]
         ensures { result.now ≡ self.now.unwritten }
     {
         self.unwritten.as_slice()
+    }
+
+    /// Whether all that was read was fed.
+    pub fn is_fed(&self) -> bool
+        ensures { IsTrue result ↔ (self.now.unfed ≡ []) }
+    {
+        self.unfed.is_empty()
     }
 
     /// Whether all that was drained was written.
@@ -128,8 +166,8 @@ impl Conn {
 
     /// Feeds what was read and not yet fed. Where memory is refused, nothing changes, and no spoilt place is next.
     pub fn feed(&mut self) -> Result<(), AllocError>
-        ensures went { OnOk result ((wire : Wire) (pass : ShownPass)
-            → Went (snapshot self.old wire pass) (snapshot self.new wire pass) []) }
+        ensures went { OnOk result ((others : List ℕ) (wire : Wire) (pass : ShownPass)
+            → Went (among others self.old wire pass) (among others self.new wire pass) []) }
         ensures fed { OnOk result (self.new.unfed ≡ []) }
         ensures unwritten { self.new.unwritten ≡ self.old.unwritten }
         ensures err { OnErr result ((self.new ≡ self.old) × (self.old.unfed ≢ []) × HasNoSpoiltNext self.old.session) }
@@ -148,8 +186,8 @@ impl Conn {
         requires fed { self.old.unfed ≡ [] }
         requires some { 1 ≤ most }
         requires wire { MayGoOn (L.wire link.old) }
-        ensures went { (pass : ShownPass)
-            → Went (snapshot self.old (L.wire link.old) pass) (snapshot self.new (L.wire link.new) pass) [] }
+        ensures went { (others : List ℕ) (pass : ShownPass)
+            → Went (among others self.old (L.wire link.old) pass) (among others self.new (L.wire link.new) pass) [] }
         ensures bytes { IfOk result (λ got. ReadsBytes (L.wire link.old) (L.wire link.new) (got_count got)) }
         ensures few { IfOk result (λ got. (got_count got ≤ most) × (got_count got ≤ 16384)) }
         ensures session { self.new.session ≡ self.old.session }

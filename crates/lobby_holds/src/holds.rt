@@ -2,18 +2,19 @@
 //! A hold has place for 32 events (`MOST_EVENTS`): so many lines of a burst cost one take and one give, and who waits
 //! for the lobby waits for no more of them.
 
-ghost use Rattle.std.specs.Prelude.{◌≡◌, ◌≢◌, ◌⊎◌, ◌+◌, ◌<◌, ◌≤◌, [], length, OnOk, OnErr, IfOk, IfSome, IsTrue, Some};
-ghost use Rattle.std.specs.Prelude.{None, true, false};
+ghost use Rattle.std.specs.Prelude.{◌≡◌, ◌≢◌, ◌⊎◌, ℕ, ◌+◌, ◌<◌, ◌≤◌, List, [], length, OnOk, OnErr, IfOk};
+ghost use Rattle.std.specs.Prelude.{IfSome, IsTrue, Some, None, true, false};
 ghost use Rattle.command_grammar.specs.Kinds.{keeps_kinds};
 ghost use Rattle.lobby_model.specs.declared.event.Event.TheVariants as event;
 ghost use Rattle.lobby_lock.specs.Passes.{pass_after};
 ghost use Rattle.client_session.specs.declared.session.Next.TheVariants.{Line};
 ghost use Rattle.client_session.specs.OneSession.{IsNextOf, HasLineNext};
 ghost use Rattle.lobby_holds.specs.Wire.{Wire};
-ghost use Rattle.lobby_holds.specs.Snapshot.{snapshot};
+ghost use Rattle.lobby_holds.specs.Snapshot.{among};
 ghost use Rattle.lobby_holds.specs.Went.{Went};
 ghost use Rattle.lobby_holds.specs.Holds.{Stands, Made, SaysLines, IsWithin, HasNoLineNext, HasLoudNext, StopsAt};
 ghost use Rattle.lobby_holds.specs.Holds.{is_quiet, HasTold, Drains, Asks, DrainedInto, DrainedBehind, GivesUp};
+ghost use Rattle.lobby_holds.specs.Holds.{DrainsBehind, SaysThenDrains};
 
 use crate::buffer::{Buffer, PIECE};
 use crate::conn::Conn;
@@ -30,6 +31,9 @@ use std::sync::Wait;
 /// the server's time went into its calls of the system where much was to be sent, and with four a third of that is
 /// saved.
 const PIECES: usize = 4;
+
+/// The most drains of a hold: each piece, and once more behind each that was not full.
+const MOST_DRAINS: usize = 8;
 
 /// What was said in a hold.
 #[derive(Clone, Copy)]
@@ -67,10 +71,11 @@ fn say_line<G: Gate>(
     requires stands { Stands held.old }
     requires kinds { IsTrue (keeps_kinds request.command) }
     requires next { IsNextOf (Some conn.old.session) (Line request) }
-    ensures ok { IfOk result (λ wakes. (wire : Wire)
-        → Made (snapshot conn.old wire (pass_after held.old)) (snapshot conn.new wire (pass_after held.new))
+    ensures ok { IfOk result (λ wakes. (others : List ℕ) (wire : Wire)
+        → Made (among others conn.old wire (pass_after held.old)) (among others conn.new wire (pass_after held.new))
         (event.Say conn.old.session.client request) wakes held.old.lobby.told held.new.lobby.told) }
     ensures unwritten { conn.new.unwritten ≡ conn.old.unwritten }
+    ensures unfed { conn.new.unfed ≡ conn.old.unfed }
     ensures count { OnOk result (length held.new.events ≡ length held.old.events + 1) }
     ensures err { OnErr result ((conn.new ≡ conn.old) × (held.new ≡ held.old)) }
     ensures pass { held.new.pass ≡ held.old.pass }
@@ -103,9 +108,9 @@ fn say_next<G: Gate>(
     gate: &G,
     is_enough: bool,
 ) -> Result<Option<Wakes>, AllocError>
-    ensures says { IfOk result (λ said. IfSome said (λ wakes. (wire : Wire)
-        → SaysLines (snapshot conn.old wire (pass_after held.old)) (snapshot conn.new wire (pass_after held.new)) 1
-        wakes held.old.lobby.told held.new.lobby.told)) }
+    ensures says { IfOk result (λ said. IfSome said (λ wakes. (others : List ℕ) (wire : Wire)
+        → SaysLines (among others conn.old wire (pass_after held.old))
+        (among others conn.new wire (pass_after held.new)) 1 wakes held.old.lobby.told held.new.lobby.told)) }
     ensures count { IfOk result (λ said. IfSome said (λ wakes.
         (length held.new.events ≡ length held.old.events + 1) × (length held.new.events ≤ MOST_EVENTS))) }
     ensures none { IfOk result (λ said. said ≡ None → (conn.new ≡ conn.old) × (held.new ≡ held.old)) }
@@ -114,6 +119,7 @@ fn say_next<G: Gate>(
         ⊎ (HasNoLineNext conn.new.session ⊎ ((is_enough ≡ true) × HasLoudNext conn.new.session))) }
     ensures err { OnErr result ((conn.new ≡ conn.old) × (held.new ≡ held.old)) }
     ensures line { OnErr result (HasLineNext conn.new.session) }
+    ensures unfed { conn.new.unfed ≡ conn.old.unfed }
     ensures pass { held.new.pass ≡ held.old.pass }
 {
     if held.count() >= MOST_EVENTS {
@@ -145,7 +151,7 @@ fn has_told(allowance: Option<u64>, told: u64) -> bool
     }
 }
 
-/// Says the next lines to the lobby in a new hold, of which the first was read as this request.
+/// Says the next lines to the lobby in a hold that has place for one, of which the first was read as this request.
 fn say_lines<G: Gate>(
     conn: &mut Conn,
     held: &mut Held,
@@ -154,15 +160,16 @@ fn say_lines<G: Gate>(
     most: usize,
     allowance: Option<u64>,
 ) -> Said
-    requires new { held.old.events ≡ [] }
+    requires few { length held.old.events < MOST_EVENTS }
     requires stands { Stands held.old }
     requires kinds { IsTrue (keeps_kinds request.command) }
     requires next { IsNextOf (Some conn.old.session) (Line request) }
     requires some { 1 ≤ most }
-    ensures says { (wire : Wire) → SaysLines (snapshot conn.old wire (pass_after held.old))
-        (snapshot conn.new wire (pass_after held.new)) result.lines result.wakes 0 result.told }
+    ensures says { (others : List ℕ) (wire : Wire) → SaysLines (among others conn.old wire (pass_after held.old))
+        (among others conn.new wire (pass_after held.new)) result.lines result.wakes 0 result.told }
     ensures within { IsWithin most result }
-    ensures stops { StopsAt most allowance conn.new.session result }
+    ensures stops { StopsAt most allowance conn.new.session (length held.new.events) result }
+    ensures unfed { conn.new.unfed ≡ conn.old.unfed }
     ensures pass { held.new.pass ≡ held.old.pass }
 {
     let before = held.told();
@@ -208,7 +215,9 @@ fn say_lines<G: Gate>(
 }
 
 /// Says the next lines to the lobby in one hold, so many at most, of which the first was read as this
-/// request. The others are read in the hold, as long as they tell less than the allowance, if there is one.
+/// request. The others are read in the hold, as long as they tell less than the allowance, if there is one. Where it
+/// is to, and no line is left, it drains behind them in the same hold, if all that was drained before was written, the
+/// hold has place and memory is there.
 pub fn say<R: Wait, G: Gate>(
     rt: &R,
     conn: &mut Conn,
@@ -217,19 +226,76 @@ pub fn say<R: Wait, G: Gate>(
     request: Request,
     most: usize,
     allowance: Option<u64>,
-) -> (Pass, Said)
+    drains: bool,
+) -> (Pass, Said, Option<Chunk>)
     requires desk { pass.desk ≡ desk.now.desk.now }
     requires kinds { IsTrue (keeps_kinds request.command) }
     requires next { IsNextOf (Some conn.old.session) (Line request) }
     requires some { 1 ≤ most }
-    ensures says { (wire : Wire) → SaysLines (snapshot conn.old wire pass) (snapshot conn.new wire result.0)
-        result.1.lines result.1.wakes 0 result.1.told }
+    ensures says { (others : List ℕ) (wire : Wire) → SaysThenDrains (among others conn.old wire pass)
+        (among others conn.new wire result.0) result.1 result.2 }
     ensures within { IsWithin most result.1 }
-    ensures stops { StopsAt most allowance conn.new.session result.1 }
+    ensures stops { (events : ℕ) × StopsAt most allowance conn.new.session events result.1 }
+    ensures unfed { conn.new.unfed ≡ conn.old.unfed }
+    ensures only { drains ≡ false → result.2 ≡ None }
+    ensures refused { result.1.refused ≡ true → result.2 ≡ None }
 {
     let mut held = desk.take(rt, pass);
-    let said = say_lines(conn, &mut held, desk.gate, request, most, allowance);
-    (desk.give(rt, held), said)
+    let (said, drained) = say_in(conn, &mut held, desk.gate, request, most, allowance, drains);
+    (desk.give(rt, held), said, drained)
+}
+
+/// The same in a hold that goes on, and has place for an event.
+pub fn say_in<G: Gate>(
+    conn: &mut Conn,
+    held: &mut Held,
+    gate: &G,
+    request: Request,
+    most: usize,
+    allowance: Option<u64>,
+    drains: bool,
+) -> (Said, Option<Chunk>)
+    requires few { length held.old.events < MOST_EVENTS }
+    requires stands { Stands held.old }
+    requires kinds { IsTrue (keeps_kinds request.command) }
+    requires next { IsNextOf (Some conn.old.session) (Line request) }
+    requires some { 1 ≤ most }
+    ensures says { (others : List ℕ) (wire : Wire) → SaysThenDrains (among others conn.old wire (pass_after held.old))
+        (among others conn.new wire (pass_after held.new)) result.0 result.1 }
+    ensures within { IsWithin most result.0 }
+    ensures stops { (events : ℕ) × StopsAt most allowance conn.new.session events result.0 }
+    ensures unfed { conn.new.unfed ≡ conn.old.unfed }
+    ensures only { drains ≡ false → result.1 ≡ None }
+    ensures refused { result.0.refused ≡ true → result.1 ≡ None }
+    ensures pass { held.new.pass ≡ held.old.pass }
+{
+    let said = say_lines(conn, held, gate, request, most, allowance);
+    if !drains || said.refused {
+        return (said, None);
+    }
+    (said, drain_behind(conn, held))
+}
+
+/// Drains for the client of a connection behind what was said, in a hold that goes on, where no line is left, all that
+/// was drained before was written, the hold has place and memory is there.
+fn drain_behind(conn: &mut Conn, held: &mut Held) -> Option<Chunk>
+    ensures drains { (others : List ℕ) (wire : Wire) → DrainsBehind (among others conn.old wire (pass_after held.old))
+        (among others conn.new wire (pass_after held.new)) result }
+    ensures session { conn.new.session ≡ conn.old.session }
+    ensures unfed { conn.new.unfed ≡ conn.old.unfed }
+    ensures pass { held.new.pass ≡ held.old.pass }
+{
+    if held.count() > MOST_EVENTS - MOST_DRAINS {
+        return None;
+    }
+    if !conn.has_nothing_next() || !conn.is_written() {
+        return None;
+    }
+    if conn.unwritten.make_room().is_err() {
+        return None;
+    }
+    let client = conn.client();
+    Some(drain_pieces(held, client, &mut conn.unwritten))
 }
 
 /// Drains into a slice, in a hold that goes on.
@@ -273,15 +339,15 @@ pub(crate) fn drain_all(held: &mut Held, client: u64, into: &mut [u8]) -> Chunk
     }
 }
 
-/// Drains behind what stands in a buffer that has room for a piece, in a new hold: one piece, and as long
+/// Drains behind what stands in a buffer that has room for a piece, in a hold that has place: one piece, and as long
 /// as they are full and memory is there, further ones, so that one write carries more.
 fn drain_pieces(held: &mut Held, client: u64, unwritten: &mut Buffer) -> Chunk
-    requires new { held.old.events ≡ [] }
+    requires few { length held.old.events + MOST_DRAINS ≤ MOST_EVENTS }
     requires stands { Stands held.old }
     requires room { PIECE ≤ unwritten.old.room }
     ensures drained { DrainedBehind (pass_after held.old) (pass_after held.new) client unwritten.old.bytes
         unwritten.new.bytes result }
-    ensures count { length held.new.events ≤ 8 }
+    ensures count { length held.new.events ≤ length held.old.events + MOST_DRAINS }
     ensures pass { held.new.pass ≡ held.old.pass }
 {
     let mut piece = unwritten.drain(held, client);
@@ -320,8 +386,8 @@ pub fn drain<R: Wait, G: Gate>(
 ) -> (Pass, Result<Chunk, AllocError>)
     requires desk { pass.desk ≡ desk.now.desk.now }
     requires written { conn.old.unwritten ≡ [] }
-    ensures ok { IfOk result.1 (λ piece. (wire : Wire)
-        → Drains (snapshot conn.old wire pass) (snapshot conn.new wire result.0) piece.finished piece.dry) }
+    ensures ok { IfOk result.1 (λ piece. (others : List ℕ) (wire : Wire)
+        → Drains (among others conn.old wire pass) (among others conn.new wire result.0) piece.finished piece.dry) }
     ensures session { conn.new.session ≡ conn.old.session }
     ensures unfed { conn.new.unfed ≡ conn.old.unfed }
     ensures came { IfOk result.1 (λ piece. piece.dry ≡ false → conn.new.unwritten ≢ []) }
@@ -344,7 +410,8 @@ pub fn is_finished<R: Wait, G: Gate>(
     pass: Pass,
 ) -> (Pass, bool)
     requires { pass.desk ≡ desk.now.desk.now }
-    ensures { (wire : Wire) → Asks (snapshot conn.now wire pass) (snapshot conn.now wire result.0) result.1 }
+    ensures { (others : List ℕ) (wire : Wire) → Asks (among others conn.now wire pass)
+        (among others conn.now wire result.0) result.1 }
 {
     let (pass, piece) = drain_into(rt, conn.client(), desk, pass, &mut []);
     (pass, piece.finished)
@@ -390,11 +457,11 @@ pub fn shut<R: Wait, G: Gate>(
     pass: Pass,
 ) -> (Pass, Result<Wakes, AllocError>, u64)
     requires { pass.desk ≡ desk.now.desk.now }
-    ensures ok { IfOk result.1 (λ wakes. (wire : Wire)
-        → Made (snapshot conn.now wire pass) (snapshot conn.now wire result.0) (event.Shut conn.now.session.client)
-        wakes 0 result.2) }
-    ensures err { OnErr result.1 ((wire : Wire)
-        → Went (snapshot conn.now wire pass) (snapshot conn.now wire result.0) []) }
+    ensures ok { IfOk result.1 (λ wakes. (others : List ℕ) (wire : Wire)
+        → Made (among others conn.now wire pass) (among others conn.now wire result.0)
+        (event.Shut conn.now.session.client) wakes 0 result.2) }
+    ensures err { OnErr result.1 ((others : List ℕ) (wire : Wire)
+        → Went (among others conn.now wire pass) (among others conn.now wire result.0) []) }
     ensures untold { OnErr result.1 (result.2 ≡ 0) }
 {
     let mut held = desk.take(rt, pass);

@@ -32,7 +32,7 @@ mod login_log;
 mod turn;
 
 pub use buffer::{Buffers, PIECE};
-pub use conn::Conn;
+pub use conn::{Ahead, Conn};
 pub use gate::Gate;
 pub use gated_desk::GatedDesk;
 pub use link::{Got, Link, Sent};

@@ -65,6 +65,11 @@ pub trait Link {
         ensures last_sent { (wire self.new).last_sent ≡ Some result }
         ensures last_got { (wire self.new).last_got ≡ (wire self.old).last_got };
 
+    /// Whether the next read will likely give nothing, and costs nothing. It is a hint, and no promise.
+    fn is_likely_empty(&self) -> bool {
+        false
+    }
+
     /// What the last read gave, if there was one.
     fn last_got(&self) -> Option<Got>
         ensures { result ≡ (wire self.now).last_got };

@@ -1,5 +1,5 @@
 -- How sending to a client goes on.
-use Rattle.std.proofs.Common.{◌≡◌, ◌≢◌, ◌⊎◌, ℕ, zero, suc, ◌+◌, ◌*◌, ◌<◌, ◌≤◌, Bool, true, false, List, [], ◌∷◌, ◌++◌, length, refl, sym, ap, ◌∙◌, subst, inl, inr, arith, append-nil, length-append, true≢false}
+use Rattle.std.proofs.Common.{◌≡◌, ◌≢◌, ◌⊎◌, ℕ, zero, suc, ◌+◌, ◌-◌, ◌<◌, ◌≤◌, Bool, true, false, List, [], ◌∷◌, ◌++◌, length, refl, sym, ap, ◌∙◌, subst, inl, inr, arith, append-nil, length-append, true≢false}
 use Rattle.std.specs.Prelude.{Option, Some}
 use Rattle.std.proofs.Math.Bool.{or-false}
 use Rattle.lobby_model.specs.declared.event.Event.TheVariants as event
@@ -7,26 +7,17 @@ use Rattle.lobby_holds.specs.declared.link.Sent.{Sent}
 use Rattle.lobby_holds.specs.declared.link.Sent.TheVariants as sent
 use Rattle.lobby_turns.specs.declared.sending.SendState.{SendState}
 use Rattle.lobby_turns.specs.declared.sending.SendState.TheVariants as send
-use Rattle.lobby_holds.specs.Wire.{MayGoOn}
+use Rattle.lobby_holds.specs.Wire.{MayGoOn, Wire}
 use Rattle.lobby_holds.specs.Moments.{Moment, moment, questions, tells_end, told_end}
 use Rattle.lobby_holds.specs.Snapshot.{Snapshot}
 use Rattle.lobby_holds.specs.Talk.{AreDrains, EndsDry}
 use Rattle.lobby_holds.specs.Went.{Went}
-use Rattle.lobby_holds.specs.Holds.{Drains, Asks}
-use Rattle.lobby_turns.specs.Sending.{MaySend, OnlyWrites, NoWriteFailed, IsSound, IsAllSent, AsksFirst, StepIs, SendsNext, IsStop, IsWrittenOut, all_written, stopped, spent, Writes, SentIs, Sends}
+use Rattle.lobby_holds.specs.declared.holds.Chunk.{Chunk}
+use Rattle.lobby_holds.specs.Holds.{Drains, DrainsRest, Asks}
+use Rattle.lobby_turns.specs.Sending.{MaySend, MaySendOn, OnlyWrites, NoWriteFailed, IsSound, IsAllSent, AsksFirst, Sending, StepIs, SendsNext, IsStop, IsWrittenOut, all_written, stopped, spent, Writes, SentIs, Sends}
 use Rattle.lobby_holds.proofs.Parts.{went_none, went_then, questions-append}
 use Rattle.lobby_holds.proofs.Talks.{are_drains-append, calm-append, finished-append, dry_behind}
 use Rattle.std.proofs.Math.Nat.{add-zero}
-
--- so many writes were made, and no drain said that nothing will come
-pub record Sending (old new : Snapshot) (writes : ℕ) : Type 0 where
-  pub talk : List Moment
-  pub went : Went old new talk
-  pub own : AreDrains old.conn.session.client talk
-  pub asks : AsksFirst old talk
-  pub drains : length talk ≤ 8 + 8 * writes
-  pub sound : IsSound old new talk
-  pub only : OnlyWrites old new writes
 
 pub only_same : (a : Snapshot) → OnlyWrites a a 0
 only_same a = record {
@@ -202,6 +193,59 @@ may_go_on a b k few may only = record {
   writes = omega (arith, may.writes_place, only.writes_are, few);
   failures = omega (arith, may.failures_place, only.failures, few);
 }
+
+-- a write more was made
+pub one_less : (a b : Wire) → MaySend a 16 → b.reads ≡ a.reads → b.writes ≡ a.writes + 1 → b.failures ≤ a.failures + 1 → MaySend b 15
+one_less a b may reads writes failures = record {
+  reads_place = omega (arith, may.reads_place, reads);
+  writes_place = omega (arith, may.writes_place, writes);
+  failures_place = omega (arith, may.failures_place, failures);
+}
+
+-- a step that writes on, of those that are left behind a first
+pub may_go_on_behind : (a b : Snapshot) (made k : ℕ) → made + 1 ≡ k → k < 16 → MaySend a.wire 15 → OnlyWrites a b made → MayGoOn b.wire
+may_go_on_behind a b made k is few may only = record {
+  reads = omega (arith, may.reads_place, only.reads);
+  writes = omega (arith, may.writes_place, only.writes_are, few, is);
+  failures = omega (arith, may.failures_place, only.failures, few, is);
+}
+
+pub may_send_behind : (a b c : Snapshot) (made n k most : ℕ) → made + 1 ≡ k → n ≡ 0 → k + most ≡ 16 → MaySend a.wire 15 → OnlyWrites a b made → OnlyWrites b c n → MaySend c.wire most
+may_send_behind a b c made n k most is none all may only more = record {
+  reads_place = omega (arith, may.reads_place, only.reads, more.reads);
+  writes_place = omega (arith, may.writes_place, only.writes_are, more.writes_are, is, none, all);
+  failures_place = omega (arith, may.failures_place, only.failures, more.failures, is, none, all);
+}
+
+-- a first step that left more
+pub first_wrote : (a b : Snapshot) (how : SendState) → how ≡ send.Again → MaySendOn b.wire how → MaySend b.wire 15
+first_wrote a b how is may = subst (λ (x : SendState). MaySendOn b.wire x) is may
+
+pub made_more : (a b c : Snapshot) (made k : ℕ) (how : SendState) → how ≡ send.Again → made + 1 ≡ k → OnlyWrites a b made → SendsNext b c how → (n : ℕ) × (n + 1 ≡ k + 1) × OnlyWrites a c n
+made_more a b c made k how is was only found =
+    let s : SendsNext b c send.Again = subst (λ (x : SendState). SendsNext b c x) is found in
+    (made + s.writes, omega (arith, was, s.step_is.1), only_then a b c made s.writes only s.only)
+
+pub writes_none : (b c : Snapshot) (how : SendState) → how ≡ send.Finished → (s : SendsNext b c how) → (n : ℕ) × (n ≡ 0) × OnlyWrites b c n
+writes_none b c how is found =
+    let s : SendsNext b c send.Finished = subst (λ (x : SendState). SendsNext b c x) is found in
+    (s.writes, s.step_is.1, s.only)
+
+pub no_write : (a b : Snapshot) → b.wire ≡ a.wire → b.conn.session ≡ a.conn.session → b.conn.unfed ≡ a.conn.unfed → OnlyWrites a b 0
+no_write a b wire session unfed = record {
+  writes_are = ap (λ w. w.writes) wire ∙ sym (add-zero a.wire.writes);
+  reads = ap (λ w. w.reads) wire;
+  read = ap (λ w. w.read) wire;
+  failures = omega (arith, ap (λ w. w.failures) wire);
+  last_got = ap (λ w. w.last_got) wire;
+  still = λ _. ap (λ w. w.last_sent) wire;
+  session = session;
+  unfed = unfed;
+}
+
+-- what was drained in the hold before is drained behind what was said
+pub rest_only : (a b : Snapshot) (piece : Chunk) → DrainsRest a b piece → OnlyWrites a b 0
+rest_only a b piece d = no_write a b d.wire d.session d.unfed
 
 pub may_send : (a b c : Snapshot) (k n most : ℕ) → (k + n) + most ≤ 16 → MaySend a.wire 16 → OnlyWrites a b k → OnlyWrites b c n → MaySend c.wire most
 may_send a b c k n most few may only more = record {
@@ -379,14 +423,20 @@ pub one_write : (a b : Snapshot) → b.wire.writes ≡ a.wire.writes + 1 → b.w
 one_write a b writes reads read failures last_got session unfed =
     record { writes_are = writes; reads = reads; read = read; failures = failures; last_got = last_got; still = λ e. absurd (omega (arith, e)); session = session; unfed = unfed }
 
-pub no_write : (a b : Snapshot) → b.wire ≡ a.wire → b.conn.session ≡ a.conn.session → b.conn.unfed ≡ a.conn.unfed → OnlyWrites a b 0
-no_write a b wire session unfed = record {
-  writes_are = ap (λ w. w.writes) wire ∙ sym (add-zero a.wire.writes);
-  reads = ap (λ w. w.reads) wire;
-  read = ap (λ w. w.read) wire;
-  failures = omega (arith, ap (λ w. w.failures) wire);
-  last_got = ap (λ w. w.last_got) wire;
-  still = λ _. ap (λ w. w.last_sent) wire;
-  session = session;
-  unfed = unfed;
+-- ---- how often the link may still be written
+
+pub writes_on : (a b : Snapshot) (most n : ℕ) → MaySend a.wire most → n < most → Writing a b n → MayGoOn b.wire
+writes_on a b most n may few h = record {
+  reads = omega (arith, h.only.reads, may.reads_place);
+  writes = omega (arith, h.only.writes_are, may.writes_place, few);
+  failures = omega (arith, h.only.failures, may.failures_place, few);
 }
+
+pub finished_may : (a b c : Snapshot) (made writes : ℕ) (how : SendState) → how ≡ send.Finished → MaySend a.wire 15 → made + 1 ≡ writes → writes < 16 → OnlyWrites a b made → SendsNext b c how → MaySend c.wire (16 - writes)
+finished_may a b c made writes how is may one few only found =
+    let s : SendsNext b c send.Finished = subst (λ (x : SendState). SendsNext b c x) is found in
+    record {
+      reads_place = omega (arith, s.only.reads, only.reads, may.reads_place);
+      writes_place = omega (arith, s.only.writes_are, s.step_is.1, only.writes_are, may.writes_place, one, few);
+      failures_place = omega (arith, s.only.failures, s.step_is.1, only.failures, may.failures_place, one, few);
+    }

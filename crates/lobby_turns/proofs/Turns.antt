@@ -25,7 +25,7 @@ use Rattle.lobby_holds.specs.Snapshot.{Snapshot}
 use Rattle.lobby_holds.specs.Talk.{AreTalk, AreDrains, EndsDry, IsDrain}
 use Rattle.lobby_holds.proofs.Counted.{told_behind_is, work_of-append}
 use Rattle.lobby_turns.proofs.Receivings.{Adds, both_told}
-use Rattle.lobby_turns.specs.Receiving.{CountsTold, IsSpent, Share, OnlyReads, IsAllReceived, HasToReceive, has_bytes, has_line, has_more, IsOver, NoReadFailed, IsMost, most_lines, most_reads, most_bytes, most_told, ReceivesMost, ReceivedIs, Receives}
+use Rattle.lobby_turns.specs.Receiving.{CountsTold, Share, OnlyReads, IsAllReceived, HasToReceive, has_bytes, has_line, has_more, IsOver, NoReadFailed, IsMost, most_lines, most_reads, most_bytes, most_told, ReceivesMost, ReceivedIs, Receives}
 use Rattle.lobby_turns.specs.Sending.{OnlyWrites, IsSound, IsStop, IsWrittenOut, all_written, stopped, spent, IsAllSent, MustWait, SendsMost, SentIs, Sends}
 use Rattle.lobby_holds.specs.Went.{Went}
 use Rattle.lobby_holds.specs.Holds.{Made, HasNoSpoiltNext, HasLoudNext}

@@ -1,23 +1,28 @@
 -- What receiving from a client did.
-use Rattle.std.specs.Prelude.{◌≡◌, ◌≢◌, ◌⊎◌, ℕ, ◌+◌, ◌-◌, ◌*◌, ◌^◌, ◌<◌, ◌≤◌, false, List, [], length, Option, Some}
+use Rattle.std.specs.Prelude.{◌≡◌, ◌≢◌, ◌⊎◌, ℕ, ◌+◌, ◌-◌, ◌*◌, ◌^◌, ◌<◌, ◌≤◌, Bool, true, false, List, []}
+use Rattle.std.specs.Prelude.{length, Option, Some}
 use Rattle.std.specs.Option.{option_map}
 use Rattle.lobby_post.specs.Mask.{has_home}
 use Rattle.client_session.specs.declared.session.Next.TheVariants.{Nothing, Spoilt}
 use Rattle.client_session.specs.OneSession.{IsNextOf, HasLineNext}
 use Rattle.client_session.specs.Serving.{Serving}
-use Rattle.lobby_holds.specs.declared.link.Got.{Got}
 use Rattle.lobby_holds.specs.declared.link.Got.TheVariants as got
 use Rattle.lobby_turns.specs.declared.receiving.ReceiveState.{ReceiveState}
 use Rattle.lobby_turns.specs.declared.receiving.ReceiveState.TheVariants as receive
 use Rattle.lobby_turns.specs.declared.receiving.Left.{Left}
 use Rattle.lobby_turns.specs.declared.receiving.Step.{Step}
 use Rattle.lobby_turns.specs.declared.receiving.Step.TheVariants as step
-use Rattle.lobby_holds.specs.Wire.{ReadsBytes}
+use Rattle.lobby_turns.specs.declared.receiving.Stage.{Stage}
+use Rattle.lobby_turns.specs.declared.receiving.Stage.TheVariants as stage
+use Rattle.lobby_holds.specs.Wire.{Wire, ReadsBytes}
 use Rattle.lobby_holds.specs.Moments.{Moment, requests, touched, told_end, work_of}
 use Rattle.lobby_holds.specs.Snapshot.{Carried, Snapshot}
 use Rattle.lobby_holds.specs.Talk.{AreTalk}
 use Rattle.lobby_holds.specs.Went.{Went}
-use Rattle.lobby_holds.specs.Holds.{AreSaid, IsWithin, HasNoSpoiltNext, HasLoudNext, HasTold, StopsAt}
+use Rattle.lobby_holds.specs.declared.holds.Chunk.{Chunk}
+use Rattle.lobby_holds.specs.declared.holds.Said.{Said}
+use Rattle.lobby_holds.specs.Holds.{AreSaid, DrainsBehind, DrainsRest, IsWithin, SaysLines}
+use Rattle.lobby_holds.specs.Holds.{HasNoSpoiltNext, HasLoudNext, HasTold, StopsAt}
 
 -- So many reads were made, of so many bytes in all and 16,384 at most, and no write, and each failed at most once.
 -- Without a read its last answer is as it was. What is to be written is as it was
@@ -97,26 +102,39 @@ pub data HasToReceive (old new : Snapshot) : Type 0 where
   has_line : HasLineNext new.conn.session → HasToReceive old new
   has_more : MayHaveMore old new → HasToReceive old new
 
--- a link is read only where no whole line is left of what was fed, and where it neither has ended nor failed
-pub record MayRead (old new : Snapshot) : Type 0 where
-  pub nothing : IsNextOf (Some new.conn.session) Nothing
+-- the last read gave bytes
+abbrev pub GaveBytes : Wire → Type 0
+GaveBytes wire = (n : ℕ) × (wire.last_got ≡ Some (got.Bytes n))
+
+-- a link is read only where it neither has ended nor failed
+pub record MayRead (old : Snapshot) : Type 0 where
   pub on : old.wire.last_got ≢ Some got.End
   pub sound : old.wire.last_got ≢ Some got.Fault
 
 -- a step that said lines said as many as were left at most, in one hold, and stopped before for want of a line, of
 -- memory or of place in the hold alone, or where nothing was left of what it might tell; and there alone a line was put
--- off. A read gave as many bytes as were left at most
+-- off. A read gave as many bytes as were left at most. Once the link had nothing more, no step reads it, and one that
+-- drains comes only then
 abbrev pub StaysWithin : Left → Serving → Step → Type 0
-StaysWithin left session (step.Said said) = IsWithin left.lines said × StopsAt left.lines left.told session said
+StaysWithin left session (step.Said said) =
+    IsWithin left.lines said × ((events : ℕ) × StopsAt left.lines left.told session events said)
+StaysWithin left session (step.Drained said piece) = IsWithin left.lines said × (left.is_dry ≡ true)
 StaysWithin left session (step.Ends receive.Again) = left.told ≡ Some 0
-StaysWithin left session (step.Read bytes) = bytes ≤ left.bytes
+StaysWithin left session (step.Read bytes) = (bytes ≤ left.bytes) × (left.is_dry ≡ false)
+StaysWithin left session step.Dry = left.is_dry ≡ false
+StaysWithin left session step.Waits = Unit {0}
+StaysWithin left session step.Done = left.is_dry ≡ true
 StaysWithin left session (step.Ends receive.All) = Unit {0}
 StaysWithin left session (step.Ends receive.Stop) = Unit {0}
-StaysWithin left session (step.Ends receive.Memory) = Unit {0}
+StaysWithin left session (step.Ends receive.Memory) = left.is_dry ≡ true → HasLineNext session
 
 -- how many bytes a step read
 abbrev pub bytes_of : Step → ℕ
 bytes_of (step.Said said) = 0
+bytes_of (step.Drained said piece) = 0
+bytes_of step.Dry = 0
+bytes_of step.Waits = 0
+bytes_of step.Done = 0
 bytes_of (step.Read bytes) = bytes
 bytes_of (step.Ends state) = 0
 
@@ -124,6 +142,13 @@ bytes_of (step.Ends state) = 0
 abbrev pub StepIs : Snapshot → Snapshot → List Moment → ℕ → Step → Type 0
 StepIs old new talk reads (step.Said said) =
     (reads ≡ 0) × AreSaid old.conn.session.client talk said.lines said.wakes 0 said.told
+StepIs old new talk reads (step.Drained said piece) = ⊥
+StepIs old new talk reads step.Dry =
+    (talk ≡ []) × (reads ≡ 1) × (new.conn.unfed ≡ [])
+    × ((new.wire.last_got ≡ Some got.Later) ⊎ (new.wire.last_got ≡ Some got.End))
+StepIs old new talk reads step.Waits = (talk ≡ []) × (reads ≡ 0)
+StepIs old new talk reads step.Done =
+    (talk ≡ []) × (reads ≡ 0) × (new.conn.unfed ≡ []) × IsNextOf (Some new.conn.session) Nothing
 StepIs old new talk reads (step.Ends receive.Again) =
     (talk ≡ []) × (reads ≡ 0) × (new.conn.unfed ≡ []) × HasLoudNext new.conn.session
 StepIs old new talk reads (step.Read bytes) = (talk ≡ []) × (reads ≡ 1) × (new.wire.last_got ≡ Some (got.Bytes bytes))
@@ -136,9 +161,24 @@ pub record ReceivesNext (old new : Snapshot) (step : Step) : Type 0 where
   pub went : Went old new talk
   pub reads : ℕ
   pub few : reads ≤ 1
-  pub may_read : 0 < reads → MayRead old new
+  pub may_read : 0 < reads → MayRead old
   pub only : OnlyReads old new reads (bytes_of step)
   pub step_is : StepIs old new talk reads step
+
+-- lines were said, and behind them the client was drained
+pub record SaysAndDrains (old new : Snapshot) (said : Said) (piece : Chunk) : Type 0 where
+  pub between : Snapshot
+  pub says : ReceivesNext old between (step.Said said)
+  pub rest : DrainsRest between new piece
+
+abbrev pub ReceivesStep : Snapshot → Snapshot → Step → Type 0
+ReceivesStep old new (step.Drained said piece) = SaysAndDrains old new said piece
+ReceivesStep old new (step.Said said) = ReceivesNext old new (step.Said said)
+ReceivesStep old new (step.Read bytes) = ReceivesNext old new (step.Read bytes)
+ReceivesStep old new step.Dry = ReceivesNext old new step.Dry
+ReceivesStep old new step.Waits = ReceivesNext old new step.Waits
+ReceivesStep old new step.Done = ReceivesNext old new step.Done
+ReceivesStep old new (step.Ends state) = ReceivesNext old new (step.Ends state)
 
 -- how far a turn received that came to a limit: on to the next turn, or to a spoilt place, or until memory was refused
 -- to what was read
@@ -171,3 +211,55 @@ pub record Receives (old new : Snapshot) (share : Share) (state : ReceiveState) 
   pub wakes_are : (home : ℕ) → has_home wakes home ≡ touched talk home
   pub told_is : CountsTold share.told talk
   pub received_is : ReceivedIs old new share talk state
+
+-- it received from the client, and may have drained for it in the last hold
+pub record ReceivesThenDrains (old new : Snapshot) (share : Share) (state : ReceiveState) (wakes : ℕ)
+    (drained : Option Chunk) : Type 0 where
+  pub between : Snapshot
+  pub receives : Receives old between share state wakes
+  pub behind : DrainsBehind between new drained
+
+-- ---- a turn that still receives
+
+-- So many lines were said to the lobby, so many reads were made, of so many bytes in all, these workers are to be
+-- woken, and so much was told
+pub record ReceivesSome (old new : Snapshot) (lines reads bytes wakes told : ℕ) : Type 0 where
+  pub sum : ℕ
+  pub says : SaysLines old new lines wakes 0 sum
+  pub told_is : CountsTold told says.talk
+  pub only : OnlyReads old new reads bytes
+
+-- the link said since that it has nothing more now, or has ended
+abbrev pub HasDried : Snapshot → Snapshot → Type 0
+HasDried old new =
+    (new.wire.last_got ≡ Some got.End)
+    ⊎ ((new.wire.last_got ≡ Some got.Later) × (old.wire.reads < new.wire.reads))
+
+-- it did so within the limits of a turn, no read failed, and the link has dried or may have more
+pub record IsReceiving (old new : Snapshot) (lines reads bytes wakes told : ℕ) (dry : Bool) : Type 0 where
+  pub receiving : ReceivesSome old new lines reads bytes wakes told
+  pub late : dry ≡ false → new.wire.last_got ≡ Some got.Later → new.wire.reads ≡ old.wire.reads
+  pub dries : dry ≡ true → HasDried old new
+  pub dry_fed : dry ≡ true → new.conn.unfed ≡ []
+  pub sound : NoReadFailed old new
+  pub after_end : old.wire.last_got ≡ Some got.End → reads ≡ 0
+  pub few_lines : lines ≤ 64
+  pub few_reads : reads ≤ 16
+  pub few_bytes : bytes ≤ 65536
+
+-- where the half of a turn stands that receives, and may tell so much, if there is a bound
+abbrev pub IsAtStage : Snapshot → Snapshot → Option ℕ → Stage → Type 0
+IsAtStage old new allowance (stage.Receives at) =
+    IsReceiving old new at.lines at.reads at.bytes at.all.wakes at.all.told at.is_dry
+IsAtStage old new allowance (stage.Received state all drained) =
+    ReceivesThenDrains old new (share_of allowance all.told) state all.wakes drained
+
+abbrev pub IsReceived : Stage → Type 0
+IsReceived (stage.Receives at) = ⊥
+IsReceived (stage.Received state all drained) = Unit {0}
+
+-- so many reads were made at most, and no write
+pub record MadeReads (old new : Wire) (most : ℕ) : Type 0 where
+  pub reads : new.reads ≤ old.reads + most
+  pub writes : new.writes ≡ old.writes
+  pub failures : new.failures ≤ old.failures + most

@@ -1,5 +1,6 @@
 -- What sending to a client did.
-use Rattle.std.specs.Prelude.{◌≡◌, ◌≢◌, ℕ, ◌+◌, ◌-◌, ◌^◌, ◌<◌, ◌≤◌, true, false, List, [], length, Option, Some, None}
+use Rattle.std.specs.Prelude.{◌≡◌, ◌≢◌, ℕ, ◌+◌, ◌-◌, ◌*◌, ◌^◌, ◌<◌, ◌≤◌, true, false, List, []}
+use Rattle.std.specs.Prelude.{length, Option, Some, None}
 use Rattle.lobby_holds.specs.declared.link.Sent.{Sent}
 use Rattle.lobby_holds.specs.declared.link.Sent.TheVariants as sent
 use Rattle.lobby_turns.specs.declared.sending.SendState.{SendState}
@@ -98,6 +99,25 @@ pub record AsksFirst (old : Snapshot) (talk : List Moment) : Type 0 where
   pub waiting : old.conn.unwritten ≢ [] → BeginsWith old.conn.session.client 0 talk
   pub written : old.conn.unwritten ≡ [] → questions talk ≡ []
   pub once : length (questions talk) ≤ 1
+
+-- so many writes were made, and no drain said that nothing will come
+pub record Sending (old new : Snapshot) (writes : ℕ) : Type 0 where
+  pub talk : List Moment
+  pub went : Went old new talk
+  pub own : AreDrains old.conn.session.client talk
+  pub asks : AsksFirst old talk
+  pub drains : length talk ≤ 8 + 8 * writes
+  pub sound : IsSound old new talk
+  pub only : OnlyWrites old new writes
+
+-- behind a first step as many writes may be made as are left
+abbrev pub MaySendOn : Wire → SendState → Type 0
+MaySendOn wire send.Finished = MaySend wire 16
+MaySendOn wire send.Again = MaySend wire 15
+MaySendOn wire send.All = Unit {0}
+MaySendOn wire send.WouldBlock = Unit {0}
+MaySendOn wire send.Fault = Unit {0}
+MaySendOn wire send.Memory = Unit {0}
 
 -- how far a turn sent to the client
 abbrev pub SentIs : Snapshot → Snapshot → List Moment → SendState → Type 0

@@ -19,7 +19,9 @@ use Rattle.lobby_holds.specs.Snapshot.{Snapshot}
 use Rattle.lobby_holds.specs.Talk.{AreDrains, AreTalk}
 use Rattle.lobby_holds.specs.Went.{Went}
 use Rattle.lobby_holds.specs.Holds.{HasNoSpoiltNext}
-use Rattle.lobby_turns.specs.Receiving.{CountsTold, IsAllReceived, HasToReceive, NoReadFailed, ReceivesMost, Share}
+use Rattle.lobby_turns.specs.declared.serving.Progress.{Progress}
+use Rattle.lobby_turns.specs.Receiving.{CountsTold, IsAtStage, IsAllReceived, HasToReceive, NoReadFailed, ReceivesMost}
+use Rattle.lobby_turns.specs.Receiving.{Share}
 use Rattle.lobby_turns.specs.Sending.{IsAllSent, IsWrittenOut, MustWait, NoWriteFailed, SendsMost}
 
 -- all that came was said to the lobby, and the link has no more, ever
@@ -119,6 +121,10 @@ pub record Turned (old new : Snapshot) (allowance : Option ℕ) (turn : Turn) (t
   pub after_end : old.wire.last_got ≡ Some got.End → new.wire.reads ≡ old.wire.reads
   pub writes : new.wire.writes ≤ old.wire.writes + 16
   pub wakes_are : (home : ℕ) → has_home turn.wakes home ≡ touched (talk ++ end) home
+
+-- a turn that may be finished: so much of it is behind
+abbrev pub IsUnderway : Snapshot → Snapshot → Progress → Type 0
+IsUnderway old at progress = IsAtStage old at progress.allowance progress.stage
 
 -- the client was shut, or memory was refused and nothing was done; the workers are woken that were to be woken before,
 -- and those that the shut touched; and so much was told

@@ -29,4 +29,4 @@ mod serving;
 pub use lobby_holds::holds::give_up_unread;
 pub use lobby_holds::{Buffers, Conn, Gate, GatedDesk, Got, Link, PIECE, Sent, Turn, TurnState};
 pub use sending::SendState;
-pub use serving::{close, send_rest, serve, serve_within};
+pub use serving::{Progress, close, finish, gather, send_rest, serve, serve_within, share_hold};

@@ -1,15 +1,16 @@
 //! The half of a turn that sends to the client: what the lobby has for it is drained, as much as one
 //! write carries, and written.
 
-ghost use Rattle.std.specs.Prelude.{◌≡◌, ◌≢◌, ◌+◌, ◌≤◌, [], Some, false};
+ghost use Rattle.std.specs.Prelude.{ℕ, List, ◌≡◌, ◌≢◌, ◌+◌, ◌≤◌, [], IfSome, Some, true, false};
 ghost use Rattle.lobby_lock.specs.Passes.{ShownPass};
-ghost use Rattle.lobby_holds.specs.Wire.{MayGoOn};
-ghost use Rattle.lobby_holds.specs.Snapshot.{Snapshot, snapshot};
+ghost use Rattle.lobby_holds.specs.Wire.{MayGoOn, Wire};
+ghost use Rattle.lobby_holds.specs.Snapshot.{Snapshot, among};
 ghost use Rattle.lobby_holds.specs.Went.{Went};
-ghost use Rattle.lobby_holds.specs.Holds.{Drains};
-ghost use Rattle.lobby_turns.specs.Sending.{OnlyWrites, SendsNext, Sends, Writes, MaySend};
+ghost use Rattle.lobby_holds.specs.Holds.{Asks, Drains, DrainsBehind};
+ghost use Rattle.lobby_turns.specs.Sending.{OnlyWrites, SendsNext, Sending, Sends, Writes, MaySend, MaySendOn};
 
-use lobby_holds::{Conn, Gate, GatedDesk, Link, Sent, holds};
+use lobby_holds::holds::{self, Chunk};
+use lobby_holds::{Conn, Gate, GatedDesk, Link, Sent};
 use lobby_lock::Pass;
 use std::sync::Wait;
 
@@ -39,8 +40,8 @@ pub enum SendState {
 fn write_rest<L: Link, G: Gate>(conn: &mut Conn, link: &mut L, gate: &G, worker: u8) -> Sent
     requires wire { MayGoOn (L.wire link.old) }
     requires rest { conn.old.unwritten ≢ [] }
-    ensures went { (pass : ShownPass) → Went (snapshot conn.old (L.wire link.old) pass)
-        (snapshot conn.new (L.wire link.new) pass) [] }
+    ensures went { (others : List ℕ) (pass : ShownPass) → Went (among others conn.old (L.wire link.old) pass)
+        (among others conn.new (L.wire link.new) pass) [] }
     ensures session { conn.new.session ≡ conn.old.session }
     ensures unfed { conn.new.unfed ≡ conn.old.unfed }
     ensures reads { (L.wire link.new).reads ≡ (L.wire link.old).reads }
@@ -70,9 +71,13 @@ fn send_link<L: Link, G: Gate>(
 ) -> (Pass, SendState)
     requires wire { MayGoOn (L.wire link.old) }
     requires rest { conn.old.unwritten ≢ [] }
-    ensures { (before : Snapshot) → Drains before (snapshot conn.old (L.wire link.old) pass) false dry
-        → OnlyWrites before (snapshot conn.old (L.wire link.old) pass) 0
-        → SendsNext before (snapshot conn.new (L.wire link.new) result.0) result.1 }
+    ensures sends { (before : Snapshot) (others : List ℕ)
+        → Drains before (among others conn.old (L.wire link.old) pass) false dry
+        → OnlyWrites before (among others conn.old (L.wire link.old) pass) 0
+        → SendsNext before (among others conn.new (L.wire link.new) result.0) result.1 }
+    ensures goes { MaySend (L.wire link.old) 16 → MaySendOn (L.wire link.new) result.1 }
+    ensures desk { result.0.desk ≡ pass.desk }
+    ensures number { result.0.worker.number ≡ pass.worker.number }
 {
     match write_rest(conn, link, gate, pass.number()) {
         Sent::Took(_) => {
@@ -86,6 +91,33 @@ fn send_link<L: Link, G: Gate>(
     }
 }
 
+/// Writes what was drained now, or says how the client stands where nothing is to be written.
+fn send_piece<L: Link, G: Gate>(
+    conn: &mut Conn,
+    link: &mut L,
+    pass: Pass,
+    gate: &G,
+    piece: Chunk,
+) -> (Pass, SendState)
+    requires wire { MayGoOn (L.wire link.old) }
+    requires came { piece.dry ≡ false → conn.old.unwritten ≢ [] }
+    ensures sends { (before : Snapshot) (others : List ℕ)
+        → Drains before (among others conn.old (L.wire link.old) pass) piece.finished piece.dry
+        → OnlyWrites before (among others conn.old (L.wire link.old) pass) 0
+        → SendsNext before (among others conn.new (L.wire link.new) result.0) result.1 }
+    ensures goes { MaySend (L.wire link.old) 16 → MaySendOn (L.wire link.new) result.1 }
+    ensures desk { result.0.desk ≡ pass.desk }
+    ensures number { result.0.worker.number ≡ pass.worker.number }
+{
+    if piece.finished {
+        return (pass, SendState::Finished);
+    }
+    if piece.dry && conn.is_written() {
+        return (pass, SendState::All);
+    }
+    send_link(conn, link, pass, gate, piece.dry)
+}
+
 /// Drains where all that was drained before was written, and writes.
 fn send_next<R: Wait, L: Link, G: Gate>(
     rt: &R,
@@ -96,8 +128,11 @@ fn send_next<R: Wait, L: Link, G: Gate>(
 ) -> (Pass, SendState)
     requires desk { pass.desk ≡ desk.now.desk.now }
     requires wire { MayGoOn (L.wire link.old) }
-    ensures { SendsNext (snapshot conn.old (L.wire link.old) pass) (snapshot conn.new (L.wire link.new) result.0)
-        result.1 }
+    ensures sends { (others : List ℕ) → SendsNext (among others conn.old (L.wire link.old) pass)
+        (among others conn.new (L.wire link.new) result.0) result.1 }
+    ensures goes { MaySend (L.wire link.old) 16 → MaySendOn (L.wire link.new) result.1 }
+    ensures desk { result.0.desk ≡ pass.desk }
+    ensures number { result.0.worker.number ≡ pass.worker.number }
 {
     if !conn.is_written() {
         return send_link(conn, link, pass, desk.gate, false);
@@ -105,15 +140,7 @@ fn send_next<R: Wait, L: Link, G: Gate>(
     let (pass, drained) = holds::drain(rt, conn, desk, pass);
     match drained {
         Err(_) => (pass, SendState::Memory),
-        Ok(piece) => {
-            if piece.finished {
-                return (pass, SendState::Finished);
-            }
-            if piece.dry && conn.is_written() {
-                return (pass, SendState::All);
-            }
-            send_link(conn, link, pass, desk.gate, piece.dry)
-        }
+        Ok(piece) => send_piece(conn, link, pass, desk.gate, piece),
     }
 }
 
@@ -121,8 +148,8 @@ fn send_next<R: Wait, L: Link, G: Gate>(
 fn write_out<L: Link, G: Gate>(conn: &mut Conn, link: &mut L, pass: &Pass, gate: &G, most: usize)
     requires few { most ≤ 16 }
     requires wire { MaySend (L.wire link.old) most }
-    ensures { Writes (snapshot conn.old (L.wire link.old) pass.now)
-        (snapshot conn.new (L.wire link.new) pass.now) most }
+    ensures { (others : List ℕ) → Writes (among others conn.old (L.wire link.old) pass.now)
+        (among others conn.new (L.wire link.new) pass.now) most }
 {
     for _ in 0..most {
         if conn.is_written() {
@@ -134,28 +161,87 @@ fn write_out<L: Link, G: Gate>(conn: &mut Conn, link: &mut L, pass: &Pass, gate:
     }
 }
 
-/// Sends to the client, as far as a turn may.
+/// Sends to the client, as far as a turn may, behind a piece that was drained in the hold before, if one was.
 pub(crate) fn send<R: Wait, L: Link, G: Gate>(
     rt: &R,
     conn: &mut Conn,
     link: &mut L,
     desk: &GatedDesk<'_, G>,
     pass: Pass,
+    drained: Option<Chunk>,
 ) -> (Pass, SendState)
     requires desk { pass.desk ≡ desk.now.desk.now }
     requires wire { MaySend (L.wire link.old) 16 }
-    ensures { Sends (snapshot conn.old (L.wire link.old) pass) (snapshot conn.new (L.wire link.new) result.0) result.1 }
+    requires came { IfSome drained (λ piece. piece.dry ≡ false → conn.old.unwritten ≢ []) }
+    ensures sends { (before : Snapshot) (others : List ℕ)
+        → DrainsBehind before (among others conn.old (L.wire link.old) pass) drained
+        → Sends before (among others conn.new (L.wire link.new) result.0) result.1 }
+    ensures desk { result.0.desk ≡ pass.desk }
+    ensures number { result.0.worker.number ≡ pass.worker.number }
 {
-    let mut pass = pass;
-    if !conn.is_written() {
-        let (next, finished) = holds::is_finished(rt, conn, desk, pass);
-        pass = next;
-        if finished {
+    if let Some(piece) = drained {
+        let (pass, state) = send_piece(conn, link, pass, desk.gate, piece);
+        return send_on(rt, conn, link, desk, pass, state);
+    }
+    let (pass, finished) = ask_first(rt, conn, desk, pass);
+    if finished {
+        write_out(conn, link, &pass, desk.gate, WRITES);
+        return (pass, SendState::Finished);
+    }
+    let (pass, state) = send_next(rt, conn, link, desk, pass);
+    send_on(rt, conn, link, desk, pass, state)
+}
+
+/// Asks whether the client is finished, where drained bytes wait to be written.
+fn ask_first<R: Wait, G: Gate>(
+    rt: &R,
+    conn: &Conn,
+    desk: &GatedDesk<'_, G>,
+    pass: Pass,
+) -> (Pass, bool)
+    requires desk { pass.desk ≡ desk.now.desk.now }
+    ensures on { result.1 ≡ false → (others : List ℕ) (wire : Wire)
+        → Sending (among others conn.now wire pass) (among others conn.now wire result.0) 0 }
+    ensures finished { result.1 ≡ true → (conn.now.unwritten ≢ []) × ((others : List ℕ) (wire : Wire)
+        → Asks (among others conn.now wire pass) (among others conn.now wire result.0) true) }
+    ensures desk { result.0.desk ≡ pass.desk }
+    ensures number { result.0.worker.number ≡ pass.worker.number }
+{
+    if conn.is_written() {
+        return (pass, false);
+    }
+    holds::is_finished(rt, conn, desk, pass)
+}
+
+/// Sends to the client behind a first step, as far as a turn may.
+fn send_on<R: Wait, L: Link, G: Gate>(
+    rt: &R,
+    conn: &mut Conn,
+    link: &mut L,
+    desk: &GatedDesk<'_, G>,
+    pass: Pass,
+    state: SendState,
+) -> (Pass, SendState)
+    requires desk { pass.desk ≡ desk.now.desk.now }
+    requires wire { MaySendOn (L.wire link.old) state }
+    ensures sends { (old before : Snapshot) (others : List ℕ) → Sending old before 0
+        → SendsNext before (among others conn.old (L.wire link.old) pass) state
+        → Sends old (among others conn.new (L.wire link.new) result.0) result.1 }
+    ensures desk { result.0.desk ≡ pass.desk }
+    ensures number { result.0.worker.number ≡ pass.worker.number }
+{
+    match state {
+        SendState::Again => {}
+        SendState::All | SendState::WouldBlock | SendState::Fault | SendState::Memory => {
+            return (pass, state);
+        }
+        SendState::Finished => {
             write_out(conn, link, &pass, desk.gate, WRITES);
             return (pass, SendState::Finished);
         }
     }
-    for writes in 0..WRITES {
+    let mut pass = pass;
+    for writes in 1..WRITES {
         let (next, state) = send_next(rt, conn, link, desk, pass);
         pass = next;
         match state {

@@ -1,15 +1,19 @@
 //! A turn of a connection.
 
-ghost use Rattle.std.specs.Prelude.{◌≡◌, ◌≢◌, ◌⊎◌, ℕ, Some, None};
+ghost use Rattle.std.specs.Prelude.{◌≡◌, ◌≢◌, ◌⊎◌, ℕ, ◌<◌, List, [], length, IfSome, Some, None, false};
+ghost use Rattle.lobby_lock.specs.Passes.{pass_after};
 ghost use Rattle.lobby_holds.specs.Wire.{Wire, IsFresh};
-ghost use Rattle.lobby_holds.specs.Snapshot.{snapshot};
-ghost use Rattle.lobby_turns.specs.Sending.{Sends};
-ghost use Rattle.lobby_turns.specs.Turned.{Turned, Closes};
+ghost use Rattle.lobby_holds.specs.Snapshot.{Snapshot, among, snapshot};
+ghost use Rattle.lobby_holds.specs.Holds.{Stands};
+ghost use Rattle.lobby_turns.specs.Receiving.{IsReceived, ReceivesThenDrains, share_of};
+ghost use Rattle.lobby_turns.specs.Sending.{MaySend, Sends};
+ghost use Rattle.lobby_turns.specs.Turned.{IsUnderway, Turned, Closes};
 
-use crate::receiving::{ReceiveState, receive};
+use crate::receiving::{ReceiveState, Received, Receiving, Stage, receive, speak};
 use crate::sending::{SendState, send};
-use lobby_holds::{Conn, Gate, GatedDesk, Got, Link, Turn, TurnState, holds};
-use lobby_lock::{Desk, Pass};
+use lobby_holds::holds::{self, Chunk};
+use lobby_holds::{Conn, Gate, GatedDesk, Got, Link, Turn, TurnState};
+use lobby_lock::{Desk, Held, MOST_EVENTS, Pass};
 use lobby_machine::Wakes;
 use std::sync::Wait;
 
@@ -64,8 +68,8 @@ pub fn close<R: Wait, G: Gate>(
     wakes: Wakes,
 ) -> (Pass, Turn, u64)
     requires { pass.desk ≡ desk.now }
-    ensures closes { (wire : Wire) → Closes (snapshot conn.now wire pass) (snapshot conn.now wire result.0) wakes
-        result.1 result.2 }
+    ensures closes { (others : List ℕ) (wire : Wire) → Closes (among others conn.now wire pass)
+        (among others conn.now wire result.0) wakes result.1 result.2 }
     ensures desk { result.0.desk ≡ pass.desk }
     ensures number { result.0.worker.number ≡ pass.worker.number }
 {
@@ -136,9 +140,115 @@ pub fn serve_within<R: Wait, L: Link, G: Gate>(
     ensures desk { result.0.desk ≡ pass.desk }
     ensures number { result.0.worker.number ≡ pass.worker.number }
 {
+    finish(rt, conn, link, desk, pass, gate, Progress::new(allowance))
+}
+
+/// How far a turn has come that shares holds with others.
+///
+/// A worker gathers what several clients sent ([`gather`]), says the lines of all in as few holds as can be
+/// ([`share_hold`]), and then finishes each turn by itself ([`finish`]). What is proved of a turn holds of each of
+/// them, whatever the worker does for the others meanwhile.
+#[derive(Clone, Copy)]
+pub struct Progress {
+    allowance: Option<u64>,
+    stage: Stage,
+}
+
+impl Progress {
+    /// A turn that begins, and may tell so much, if there is a bound.
+    pub fn new(allowance: Option<u64>) -> Progress
+        ensures begins { (at : Snapshot) → IsUnderway at at result }
+        ensures allowance { result.allowance ≡ allowance }
+    {
+        Progress {
+            allowance,
+            stage: Stage::Receives(Receiving::new()),
+        }
+    }
+
+    /// Whether it has lines for the lobby.
+    pub fn speaks(&self) -> bool {
+        matches!(self.stage, Stage::Receives(_))
+    }
+
+    /// How much its lines told.
+    pub fn told(&self) -> u64 {
+        match self.stage {
+            Stage::Receives(at) => at.all.told,
+            Stage::Received(_, all, _) => all.told,
+        }
+    }
+}
+
+/// A turn begins: its link is read, and what it gives is fed, as far as no line is to be said before. The lobby is not
+/// taken.
+pub fn gather<R: Wait, L: Link, G: Gate>(
+    rt: &R,
+    conn: &mut Conn,
+    link: &mut L,
+    desk: &Desk,
+    pass: Pass,
+    gate: &G,
+) -> (Pass, Progress)
+    requires desk { pass.desk ≡ desk.now }
+    requires fresh { IsFresh (L.wire link.old) }
+    ensures gathers { (others : List ℕ) → IsUnderway (among others conn.old (L.wire link.old) pass)
+        (among others conn.new (L.wire link.new) result.0) result.1 }
+    ensures pass { result.0 ≡ pass }
+{
     let gated = GatedDesk { desk, gate };
-    let (pass, received, all) = receive(rt, conn, link, &gated, pass, allowance);
-    let (pass, sent) = send(rt, conn, link, &gated, pass);
+    let allowance = Some(0);
+    let from = Receiving::new();
+    let (pass, stage) = receive(rt, conn, link, &gated, pass, allowance, from, false);
+    (pass, Progress { allowance, stage })
+}
+
+/// Says the next lines of a turn to the lobby in a hold that goes on and has place for one, and drains for its client
+/// behind them where none is left. From now on it may tell so much, if there is a bound.
+pub fn share_hold<G: Gate>(
+    conn: &mut Conn,
+    held: &mut Held,
+    gate: &G,
+    progress: Progress,
+    allowance: Option<u64>,
+) -> Progress
+    requires few { length held.old.events < MOST_EVENTS }
+    requires stands { Stands held.old }
+    ensures shares { (old : Snapshot) (wire : Wire)
+        → IsUnderway old (among old.others conn.old wire (pass_after held.old)) progress
+        → IsUnderway old (among old.others conn.new wire (pass_after held.new)) result }
+    ensures pass { held.new.pass ≡ held.old.pass }
+{
+    match progress.stage {
+        Stage::Receives(at) => {
+            let stage = speak(conn, held, gate, allowance, at);
+            Progress { allowance, stage }
+        }
+        Stage::Received(_, _, _) => progress,
+    }
+}
+
+/// A turn goes on to its end.
+pub fn finish<R: Wait, L: Link, G: Gate>(
+    rt: &R,
+    conn: &mut Conn,
+    link: &mut L,
+    desk: &Desk,
+    pass: Pass,
+    gate: &G,
+    progress: Progress,
+) -> (Pass, Turn, u64)
+    requires desk { pass.desk ≡ desk.now }
+    requires fresh { IsFresh (L.wire link.old) }
+    ensures turned { (old : Snapshot)
+        → IsUnderway old (among old.others conn.old (L.wire link.old) pass) progress
+        → Turned old (among old.others conn.new (L.wire link.new) result.0) progress.allowance result.1 result.2 }
+    ensures desk { result.0.desk ≡ pass.desk }
+    ensures number { result.0.worker.number ≡ pass.worker.number }
+{
+    let gated = GatedDesk { desk, gate };
+    let (pass, received, all, drained) = receive_rest(rt, conn, link, &gated, pass, progress);
+    let (pass, sent) = send(rt, conn, link, &gated, pass, drained);
     match state_of(link.last_got(), received, sent) {
         Some(state) => {
             let turn = Turn {
@@ -155,6 +265,58 @@ pub fn serve_within<R: Wait, L: Link, G: Gate>(
     }
 }
 
+/// The half of a turn that receives goes on to its end.
+fn receive_rest<R: Wait, L: Link, G: Gate>(
+    rt: &R,
+    conn: &mut Conn,
+    link: &mut L,
+    desk: &GatedDesk<'_, G>,
+    pass: Pass,
+    progress: Progress,
+) -> (Pass, ReceiveState, Received, Option<Chunk>)
+    requires desk { pass.desk ≡ desk.now.desk.now }
+    requires fresh { IsFresh (L.wire link.old) }
+    ensures receives { (old : Snapshot)
+        → IsUnderway old (among old.others conn.old (L.wire link.old) pass) progress
+        → ReceivesThenDrains old (among old.others conn.new (L.wire link.new) result.0)
+        (share_of progress.allowance result.2.told) result.1 result.2.wakes result.3 }
+    ensures wire { MaySend (L.wire link.new) 16 }
+    ensures came { IfSome result.3 (λ piece. piece.dry ≡ false → conn.new.unwritten ≢ []) }
+    ensures desk { result.0.desk ≡ pass.desk }
+    ensures number { result.0.worker.number ≡ pass.worker.number }
+{
+    let Progress { allowance, stage } = progress;
+    match stage {
+        Stage::Receives(at) => {
+            let (pass, stage) = receive(rt, conn, link, desk, pass, allowance, at, true);
+            let (state, all, drained) = end_of(stage);
+            (pass, state, all, still_drained(conn, drained))
+        }
+        Stage::Received(state, all, drained) => (pass, state, all, still_drained(conn, drained)),
+    }
+}
+
+/// How the half of a turn ended that receives, if it did. One that did not would go on in the next turn.
+fn end_of(stage: Stage) -> (ReceiveState, Received, Option<Chunk>)
+    ensures { IsReceived stage → stage ≡ Stage.Received result.0 result.1 result.2 }
+{
+    match stage {
+        Stage::Receives(at) => (ReceiveState::Again, at.all, None),
+        Stage::Received(state, all, drained) => (state, all, drained),
+    }
+}
+
+/// What was drained, where it is still to be written, or nothing came.
+fn still_drained(conn: &Conn, drained: Option<Chunk>) -> Option<Chunk>
+    ensures came { IfSome result (λ piece. piece.dry ≡ false → conn.now.unwritten ≢ []) }
+    ensures same { IfSome drained (λ piece. piece.dry ≡ false → conn.now.unwritten ≢ []) → result ≡ drained }
+{
+    match drained {
+        Some(piece) if piece.dry || !conn.is_written() => Some(piece),
+        Some(_) | None => None,
+    }
+}
+
 /// Sends to a client what waits for it, as much as a turn may, and does nothing else: it is not read, and not shut.
 pub fn send_rest<R: Wait, L: Link, G: Gate>(
     rt: &R,
@@ -166,11 +328,11 @@ pub fn send_rest<R: Wait, L: Link, G: Gate>(
 ) -> (Pass, SendState)
     requires desk { pass.desk ≡ desk.now }
     requires fresh { IsFresh (L.wire link.old) }
-    ensures sends { Sends (snapshot conn.old (L.wire link.old) pass) (snapshot conn.new (L.wire link.new) result.0)
-        result.1 }
+    ensures sends { (others : List ℕ) → Sends (among others conn.old (L.wire link.old) pass)
+        (among others conn.new (L.wire link.new) result.0) result.1 }
     ensures desk { result.0.desk ≡ pass.desk }
     ensures number { result.0.worker.number ≡ pass.worker.number }
 {
     let gated = GatedDesk { desk, gate };
-    send(rt, conn, link, &gated, pass)
+    send(rt, conn, link, &gated, pass, None)
 }

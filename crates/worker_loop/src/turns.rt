@@ -1,7 +1,8 @@
 //! The turns of a worker's connections. A worker takes the lobby for them, which may wait.
 
-ghost use Rattle.std.specs.Prelude.{◌≡◌, ◌<◌, [], ◌∷◌, ◌++◌, ℕ, List, OnOk, OnErr};
+ghost use Rattle.std.specs.Prelude.{◌≡◌, ◌<◌, [], ◌∷◌, ◌++◌, ℕ, List, length, slice_index_or, OnOk, OnErr};
 ghost use Rattle.lobby_connections.specs.Attended.{IsAttended, KeepsAttended};
+ghost use Rattle.lobby_connections.specs.Joined.{keys_in};
 ghost use Rattle.lobby_model.specs.declared.event.Event.TheVariants as event;
 ghost use Rattle.lobby_lock.specs.Passes.{pass_after};
 ghost use Rattle.lobby_turns.specs.Holds.{IsTaken, Stands};
@@ -10,7 +11,8 @@ use crate::inboxes::{Arrival, Inboxes};
 use crate::leaving::{go_on_from_reserve, is_leaving};
 use crate::reserve::Reserve;
 use lobby_connections::{
-    Connection, Connections, Fronted, NAMES_IN_HOLD, Newcomers, Served, TURN_MOST, Wakers,
+    Connection, Connections, Fronted, NAMES_IN_HOLD, Newcomers, Served, TOGETHER, TURN_MOST,
+    Together, Wakers,
 };
 use lobby_lock::{Desk, Held, Pass};
 use lobby_machine::OpenError;
@@ -180,6 +182,182 @@ fn turn_within<R: Wait, G: Gate>(
     pass
 }
 
+/// Those whose turns share holds get them, and had them all. One alone gets its turn by itself.
+pub fn turn_together<R: Wait, G: Gate>(
+    rt: &R,
+    shared: &Shared<'_, G>,
+    pass: Pass,
+    connections: &mut Connections,
+    registry: &Registry,
+    together: &mut Together,
+) -> Pass
+    requires { pass.desk ≡ shared.now.desk.now }
+    ensures desk { result.desk ≡ pass.desk }
+    ensures number { result.worker.number ≡ pass.worker.number }
+    ensures attended { (rest : List ℕ) → IsAttended connections.old (keys_in together.old ++ rest)
+        → IsAttended connections.new rest }
+    ensures nobody { keys_in together.new ≡ [] }
+{
+    let pass = turn_all(rt, shared, pass, connections, registry, together);
+    together.clear();
+    pass
+}
+
+/// Those whose turns share holds get them, where they are several and there is memory for that. Else each gets its turn
+/// by itself.
+fn turn_all<R: Wait, G: Gate>(
+    rt: &R,
+    shared: &Shared<'_, G>,
+    pass: Pass,
+    connections: &mut Connections,
+    registry: &Registry,
+    together: &mut Together,
+) -> Pass
+    requires { pass.desk ≡ shared.now.desk.now }
+    ensures desk { result.desk ≡ pass.desk }
+    ensures number { result.worker.number ≡ pass.worker.number }
+    ensures attended { (rest : List ℕ) → IsAttended connections.old (keys_in together.old ++ rest)
+        → IsAttended connections.new rest }
+{
+    if !share(connections, together) {
+        return turn_each(rt, shared, pass, connections, registry, together);
+    }
+    let pass = connections.share_holds(rt, together, shared.desk, pass, shared.gate);
+    finish_all(rt, shared, pass, connections, registry, together)
+}
+
+/// Whether their turns share holds: they are several, and there is memory for that.
+fn share(connections: &mut Connections, together: &Together) -> bool
+    ensures { connections.new ≡ connections.old }
+{
+    together.count() > 1 && connections.may_share()
+}
+
+/// Each of them gets its turn by itself.
+fn turn_each<R: Wait, G: Gate>(
+    rt: &R,
+    shared: &Shared<'_, G>,
+    pass: Pass,
+    connections: &mut Connections,
+    registry: &Registry,
+    together: &Together,
+) -> Pass
+    requires { pass.desk ≡ shared.now.desk.now }
+    ensures desk { result.desk ≡ pass.desk }
+    ensures number { result.worker.number ≡ pass.worker.number }
+    ensures attended { (rest : List ℕ) → IsAttended connections.old (keys_in together.now ++ rest)
+        → IsAttended connections.new rest }
+{
+    let mut pass = pass;
+    for place in 0..together.count() {
+        let key = together.key_at(place);
+        pass = turn(rt, shared, pass, connections, registry, key);
+    }
+    pass
+}
+
+/// The turn of each of those that shared holds goes on to its end.
+fn finish_all<R: Wait, G: Gate>(
+    rt: &R,
+    shared: &Shared<'_, G>,
+    pass: Pass,
+    connections: &mut Connections,
+    registry: &Registry,
+    together: &Together,
+) -> Pass
+    requires { pass.desk ≡ shared.now.desk.now }
+    ensures desk { result.desk ≡ pass.desk }
+    ensures number { result.worker.number ≡ pass.worker.number }
+    ensures attended { (rest : List ℕ) → IsAttended connections.old (keys_in together.now ++ rest)
+        → IsAttended connections.new rest }
+{
+    let mut pass = pass;
+    for place in 0..together.count() {
+        pass = finish(rt, shared, pass, connections, registry, together, place);
+    }
+    pass
+}
+
+/// The turn of the one in this place of those that shared holds goes on to its end.
+fn finish<R: Wait, G: Gate>(
+    rt: &R,
+    shared: &Shared<'_, G>,
+    pass: Pass,
+    connections: &mut Connections,
+    registry: &Registry,
+    together: &Together,
+    place: usize,
+) -> Pass
+    requires place { place < length (keys_in together.now) }
+    requires desk { pass.desk ≡ shared.now.desk.now }
+    ensures desk { result.desk ≡ pass.desk }
+    ensures number { result.worker.number ≡ pass.worker.number }
+    ensures attended { (rest : List ℕ)
+        → IsAttended connections.old (slice_index_or (keys_in together.now) place 0 ∷ rest)
+        → IsAttended connections.new rest }
+{
+    let key = together.key_at(place);
+    let written = writes_at(connections, key);
+    let (pass, served) = connections.finish_turn(
+        rt,
+        together,
+        place,
+        shared.desk,
+        pass,
+        shared.gate,
+    );
+    let Some(served) = served else {
+        return pass;
+    };
+    let writes = writes_at(connections, key).wrapping_sub(written);
+    let (pass, served) = go_on_if_leaving(rt, shared, pass, connections, served);
+    end_turn(shared, connections, registry, pass.number(), served, writes);
+    pass
+}
+
+/// A connection of which a poll told joins those whose turns share holds, if it is to get a turn and is not put off;
+/// what has no client is read. Where there is no place for one more behind it, they all get their turns.
+pub fn join_told<R: Wait, G: Gate>(
+    rt: &R,
+    shared: &Shared<'_, G>,
+    pass: Pass,
+    connections: &mut Connections,
+    newcomers: &mut Newcomers,
+    registry: &Registry,
+    token: Token,
+    together: &mut Together,
+) -> Pass
+    requires place { length (keys_in together.old) < TOGETHER }
+    requires desk { pass.desk ≡ shared.now.desk.now }
+    ensures place { length (keys_in together.new) < TOGETHER }
+    ensures desk { result.desk ≡ pass.desk }
+    ensures number { result.worker.number ≡ pass.worker.number }
+    ensures attended { (rest : List ℕ) → IsAttended connections.old (keys_in together.old ++ token.0 ∷ rest)
+        → IsAttended connections.new (keys_in together.new ++ rest) }
+{
+    let pass = read_told(rt, shared, pass, connections, newcomers, registry, token);
+    join(connections, token.0, together);
+    if !together.is_full() {
+        return pass;
+    }
+    turn_together(rt, shared, pass, connections, registry, together)
+}
+
+/// The connection under a key joins those whose turns share holds, if it is to get a turn and is not put off.
+fn join(connections: &mut Connections, key: usize, together: &mut Together)
+    requires { length (keys_in together.old) < TOGETHER }
+    ensures { (rest : List ℕ) → IsAttended connections.old (keys_in together.old ++ key ∷ rest)
+        → IsAttended connections.new (keys_in together.new ++ rest) }
+{
+    if !connections.begins_turn(key) {
+        return;
+    }
+    if connections.is_put_off(key) {
+        return;
+    }
+    together.join(key);
+}
+
 /// How many writes the link of the connection under a key made.
 fn writes_at(connections: &Connections, key: usize) -> u64 {
     match connections.at(key) {
@@ -269,27 +447,6 @@ fn tell_refused<G: Gate>(gate: &G, connections: &mut Connections, worker: u8)
     if connections.refuse() {
         gate.tell(Happening::MemoryRefused { worker });
     }
-}
-
-/// What a poll told under this token: a connection's line goes on, and its client is opened where it is whole; what
-/// came for one that lingers is let go; or a connection gets its turn.
-pub fn turn_told<R: Wait, G: Gate>(
-    rt: &R,
-    shared: &Shared<'_, G>,
-    pass: Pass,
-    connections: &mut Connections,
-    newcomers: &mut Newcomers,
-    registry: &Registry,
-    token: Token,
-) -> Pass
-    requires { pass.desk ≡ shared.now.desk.now }
-    ensures desk { result.desk ≡ pass.desk }
-    ensures number { result.worker.number ≡ pass.worker.number }
-    ensures attended { (rest : List ℕ) → IsAttended connections.old (token.0 ∷ rest)
-        → IsAttended connections.new rest }
-{
-    let pass = read_told(rt, shared, pass, connections, newcomers, registry, token);
-    turn(rt, shared, pass, connections, registry, token.0)
 }
 
 /// What a poll told under a token of one that has no client: its line goes on, or what came is let go.

@@ -11,7 +11,7 @@ use crate::leaving::renew_reserve;
 use crate::reserve::Reserve;
 use crate::stopping::{Step, step_all};
 use crate::turns::{self, Shared};
-use lobby_connections::{Connections, Lookout, Newcomers, PollTimeout, Wakers};
+use lobby_connections::{Connections, Lookout, Newcomers, PollTimeout, Together, Wakers};
 use lobby_lock::{Desk, Pass};
 use lobby_turns::Gate;
 use mio::event::Event;
@@ -194,11 +194,21 @@ impl WorkerLoop {
         let newcomers = &mut self.newcomers;
         let events = self.lookout.told();
         let mut pass = pass;
+        let mut together = Together::new();
         for event in events {
             let token = event.token();
-            pass = turns::turn_told(rt, shared, pass, connections, newcomers, registry, token);
+            pass = turns::join_told(
+                rt,
+                shared,
+                pass,
+                connections,
+                newcomers,
+                registry,
+                token,
+                &mut together,
+            );
         }
-        pass
+        turns::turn_together(rt, shared, pass, connections, registry, &mut together)
     }
 
     /// A round begins, while so many workers tell much. Where the poll before it was not made, the next one waits no

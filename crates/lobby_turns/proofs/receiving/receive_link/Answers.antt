@@ -4,29 +4,29 @@ use Rattle.lobby_turns.proofs.Receivings.{stays_nothing, read_bytes, fits, only_
 use Rattle.lobby_turns.proofs.receiving.receive_link.Goals as goal
 
 pub returns-in-Some-End-clause-received : goal.returns-in-Some-End-clause-received
-returns-in-Some-End-clause-received g c = ended_before _ c.requires.fed c.requires.next (search rules)
+returns-in-Some-End-clause-received g c = λ others. ended_before _ c.requires.fed c.requires.next (search rules)
 
 pub returns-in-Some-Fault-clause-received : goal.returns-in-Some-Fault-clause-received
-returns-in-Some-Fault-clause-received g c = failed_before _ (search rules)
+returns-in-Some-Fault-clause-received g c = λ others. failed_before _ (search rules)
 
 pub returns-in-Ok-Bytes-clause-received : goal.returns-in-Ok-Bytes-clause-received
-returns-in-Ok-Bytes-clause-received g c =
+returns-in-Ok-Bytes-clause-received g c = λ others.
     let e = c.in-Ok-Bytes.ensures in
-    link_read _ _ _ (record { nothing = stays_nothing _ _ e.session c.requires.next; on = search rules; sound = search rules }) (e.went c.args.pass) (only_one _ _ _ (read_bytes _ _ _ _ (ap got_count c.in-Ok-Bytes.field-0-is) e.bytes) (fits _ _ (ap got_count c.in-Ok-Bytes.field-0-is) e.few.1) e.reads e.writes e.failures e.unwritten) (e.last_got ∙ ap (λ x. Some x) c.in-Ok-Bytes.field-0-is)
+    link_read _ _ _ (record { on = search rules; sound = search rules }) (e.went others c.args.pass) (only_one _ _ _ (read_bytes _ _ _ _ (ap got_count c.in-Ok-Bytes.field-0-is) e.bytes) (fits _ _ (ap got_count c.in-Ok-Bytes.field-0-is) e.few.1) e.reads e.writes e.failures e.unwritten) (e.last_got ∙ ap (λ x. Some x) c.in-Ok-Bytes.field-0-is)
 
 pub returns-in-Ok-Later-clause-received : goal.returns-in-Ok-Later-clause-received
-returns-in-Ok-Later-clause-received g c =
+returns-in-Ok-Later-clause-received g c = λ others.
     let e = c.in-Ok-Later.ensures in
-    link_later _ _ (record { nothing = stays_nothing _ _ e.session c.requires.next; on = search rules; sound = search rules }) (e.went c.args.pass) (only_one _ _ 0 (read_bytes _ _ _ _ (ap got_count c.in-Ok-Later.field-0-is) e.bytes) (omega arith) e.reads e.writes e.failures e.unwritten) (e.none (ap got_count c.in-Ok-Later.field-0-is)) c.requires.fed
+    link_later _ _ (record { on = search rules; sound = search rules }) (stays_nothing _ _ e.session c.requires.next) (e.went others c.args.pass) (only_one _ _ 0 (read_bytes _ _ _ _ (ap got_count c.in-Ok-Later.field-0-is) e.bytes) (omega arith) e.reads e.writes e.failures e.unwritten) (e.none (ap got_count c.in-Ok-Later.field-0-is)) c.requires.fed
     (e.last_got ∙ ap (λ x. Some x) c.in-Ok-Later.field-0-is)
 
 pub returns-in-Ok-End-clause-received : goal.returns-in-Ok-End-clause-received
-returns-in-Ok-End-clause-received g c =
+returns-in-Ok-End-clause-received g c = λ others.
     let e = c.in-Ok-End.ensures in
-    link_end _ _ (record { nothing = stays_nothing _ _ e.session c.requires.next; on = search rules; sound = search rules }) (e.went c.args.pass) (only_one _ _ 0 (read_bytes _ _ _ _ (ap got_count c.in-Ok-End.field-0-is) e.bytes) (omega arith) e.reads e.writes e.failures e.unwritten) (e.none (ap got_count c.in-Ok-End.field-0-is)) c.requires.fed
+    link_end _ _ (record { on = search rules; sound = search rules }) (stays_nothing _ _ e.session c.requires.next) (e.went others c.args.pass) (only_one _ _ 0 (read_bytes _ _ _ _ (ap got_count c.in-Ok-End.field-0-is) e.bytes) (omega arith) e.reads e.writes e.failures e.unwritten) (e.none (ap got_count c.in-Ok-End.field-0-is)) c.requires.fed
     (e.last_got ∙ ap (λ x. Some x) c.in-Ok-End.field-0-is)
 
 pub returns-in-Ok-Fault-clause-received : goal.returns-in-Ok-Fault-clause-received
-returns-in-Ok-Fault-clause-received g c =
+returns-in-Ok-Fault-clause-received g c = λ others.
     let e = c.in-Ok-Fault.ensures in
-    link_fault _ _ (record { nothing = stays_nothing _ _ e.session c.requires.next; on = search rules; sound = search rules }) (e.went c.args.pass) (only_one _ _ 0 (read_bytes _ _ _ _ (ap got_count c.in-Ok-Fault.field-0-is) e.bytes) (omega arith) e.reads e.writes e.failures e.unwritten) (e.last_got ∙ ap (λ x. Some x) c.in-Ok-Fault.field-0-is)
+    link_fault _ _ (record { on = search rules; sound = search rules }) (e.went others c.args.pass) (only_one _ _ 0 (read_bytes _ _ _ _ (ap got_count c.in-Ok-Fault.field-0-is) e.bytes) (omega arith) e.reads e.writes e.failures e.unwritten) (e.last_got ∙ ap (λ x. Some x) c.in-Ok-Fault.field-0-is)

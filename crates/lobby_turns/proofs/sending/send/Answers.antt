@@ -1,31 +1,30 @@
-use Rattle.std.proofs.Common.{refl, sym, ◌∙◌, subst, arith, true≢false}
-use Rattle.lobby_lock.specs.Passes.{ShownPass}
-use Rattle.lobby_holds.specs.Snapshot.{snapshot}
-use Rattle.lobby_turns.proofs.Sendings.{Sending, no_write, sending_none, sending_asked, sending_wrote, sends_on, sends_finished, sends_asked}
-use Rattle.lobby_turns.proofs.sending.send.Goals.{then-not-is_written+else-finished, else-not-is_written}
+use Rattle.std.proofs.Common.{◌≡◌, refl, subst}
+use Rattle.lobby_holds.specs.Snapshot.{among}
+use Rattle.lobby_holds.specs.Holds.{DrainsBehind}
+use Rattle.lobby_turns.specs.declared.sending.SendState.TheVariants as send
+use Rattle.lobby_turns.specs.Sending.{Sends}
+use Rattle.lobby_turns.proofs.Sendings.{no_write, rest_only, sending_none, sends_asked}
 use Rattle.lobby_turns.proofs.sending.send.Goals as goal
 
-pub returns-then-finished : goal.returns-then-finished
-returns-then-finished g c =
+pub returns-in-Some-clause-sends : goal.returns-in-Some-clause-sends
+returns-in-Some-clause-sends g c = λ before others d.
+    let now = among others c.args.conn.now (g.L.Link.wire c.args.link.now) c.args.pass in
+    let rest = subst (λ o. DrainsBehind before now o) c.in-Some.is d in
+    c.send_on.ensures.sends before before others (sending_none before rest.written) (c.send_piece-pass.ensures.sends before others rest.drains (rest_only before now _ rest))
+
+pub returns-then-finished-clause-sends : goal.returns-then-finished-clause-sends
+returns-then-finished-clause-sends g c = λ before others d.
     let wire = g.L.Link.wire c.args.link.now in
-    sends_asked _ _ _ _ (λ none. true≢false (sym (c.is_written.ensures.1 none) ∙ c.if-not-is_written.true)) c.if-finished.true (no_write _ _ refl refl refl) (c.is_finished-next.ensures wire) c.write_out.ensures
+    let now = among others c.args.conn.now wire c.args.pass in
+    let same : now ≡ before = subst (λ o. DrainsBehind before now o) c.in_default.is d in
+    let asked = c.ask_first-pass.ensures.finished c.if-finished.true in
+    subst (λ x. Sends x (among others c.write_out.new.conn (g.L.Link.wire c.write_out.new.link) c.ask_first-pass.result.0) send.Finished) same
+    (sends_asked now _ _ _ asked.0 refl (no_write _ _ refl refl refl) (asked.1 others wire) (c.write_out.ensures others))
 
-pub loop-writes-init : goal.loop-writes-init
-loop-writes-init g c =
+pub returns-clause-sends : goal.returns-clause-sends
+returns-clause-sends g c = λ before others d.
     let wire = g.L.Link.wire c.args.link.now in
-    let before = snapshot c.args.conn.now wire c.args.pass in
-    elim c.if-not-is_written.branch [
-      | then-not-is_written+else-finished w ↦ subst (λ (p : ShownPass). Sending before (snapshot c.args.conn.now wire p) 0) (sym w.pass-is)
-          (sending_asked _ _ _ (λ none. true≢false (sym (c.is_written.ensures.1 none) ∙ w.if-not-is_written.true)) w.if-finished.false (no_write _ _ refl refl refl) (w.is_finished-next.ensures wire))
-      | else-not-is_written w ↦ subst (λ (p : ShownPass). Sending before (snapshot c.args.conn.now wire p) 0) (sym w.pass-is) (sending_none before (c.is_written.ensures.0 w.if-not-is_written.false))
-    ]
-
-pub returns-in-All : goal.returns-in-All
-returns-in-All g c = sends_on _ _ _ _ _ c.in-All.is c.loop-writes-test.true c.loop-writes.invariant c.send_next-next.ensures
-
-pub returns-in-Finished : goal.returns-in-Finished
-returns-in-Finished g c =
-    sends_finished _ _ _ _ _ _ _ c.in-Finished.is c.loop-writes-test.true (omega (arith, c.loop-writes-test.true)) c.loop-writes.invariant c.send_next-next.ensures c.write_out-in-Finished.ensures
-
-pub loop-writes-preserved : goal.loop-writes-preserved
-loop-writes-preserved g c = sending_wrote _ _ _ _ _ c.in-Again.is c.loop-writes.invariant c.send_next-next.ensures
+    let now = among others c.args.conn.now wire c.args.pass in
+    let same : now ≡ before = subst (λ o. DrainsBehind before now o) c.in_default.is d in
+    subst (λ x. Sends x (among others c.send_on-2.new.conn (g.L.Link.wire c.send_on-2.new.link) c.send_on-2.result.0) c.send_on-2.result.1) same
+    (c.send_on-2.ensures.sends now _ others (c.ask_first-pass.ensures.on c.if-finished.false others wire) (c.send_next-pass.ensures.sends others))

@@ -1,8 +1,5 @@
-use Rattle.lobby_holds.proofs.Kept.{kept}
+use Rattle.std.proofs.Common.{refl}
 use Rattle.lobby_turns.proofs.serving.send_rest.Goals as goal
 
-pub returns-clause-desk : goal.returns-clause-desk
-returns-clause-desk g c = (kept _ _ _ c.send.ensures.went.joined).0
-
-pub returns-clause-number : goal.returns-clause-number
-returns-clause-number g c = (kept _ _ _ c.send.ensures.went.joined).1
+pub returns-clause-sends : goal.returns-clause-sends
+returns-clause-sends g c = λ others. c.send.ensures.sends _ others refl

@@ -1,24 +1,11 @@
-use Rattle.std.proofs.Common.{arith, refl}
+use Rattle.std.proofs.Common.{ℕ, subst}
+use Rattle.std.specs.Prelude.{Option}
 use Rattle.lobby_holds.specs.Snapshot.{snapshot}
-use Rattle.lobby_holds.proofs.Kept.{kept}
-use Rattle.lobby_turns.proofs.Turns.{must_shut, may_rest, turned_open, turned_closed}
+use Rattle.lobby_turns.specs.Turned.{Turned}
 use Rattle.lobby_turns.proofs.serving.serve_within.Goals as goal
 
-pub returns-in-Some-clause-turned : goal.returns-in-Some-clause-turned
-returns-in-Some-clause-turned g c =
-    let e = c.in-Some.ensures in
-    let after = snapshot c.send-pass.new.conn (g.L.Link.wire c.send-pass.new.link) c.send-pass.result.0 in
-    turned_open _ _ _ _ _ _ _ _ c.receive-pass.ensures c.send-pass.ensures (e.goes_on (λ none. absurd (cc (none)))) (may_rest after _ _ _ c.last_got.result c.last_got.ensures e.idle e.again e.memory e.closed)
-
-pub returns-in-None-clause-turned : goal.returns-in-None-clause-turned
-returns-in-None-clause-turned g c =
-    let wire = g.L.Link.wire c.send-pass.new.link in
-    let after = snapshot c.send-pass.new.conn wire c.send-pass.result.0 in
-    rw c.note_end.ensures (turned_closed _ _ _ _ _ _ _ _ _ _ _ _ c.receive-pass.ensures c.send-pass.ensures
-    (must_shut after _ _ c.last_got.result c.last_got.ensures (c.in-None.ensures.shut refl)) refl refl (rw c.note_end.ensures at (c.close-pass.ensures.closes wire)) (λ small. omega (arith, c.saturating_add.ensures, small)))
-
-pub returns-in-None-clause-desk : goal.returns-in-None-clause-desk
-returns-in-None-clause-desk g c = (kept _ _ _ (returns-in-None-clause-turned g c).went.joined).0
-
-pub returns-in-None-clause-number : goal.returns-in-None-clause-number
-returns-in-None-clause-number g c = (kept _ _ _ (returns-in-None-clause-turned g c).went.joined).1
+pub returns-clause-turned : goal.returns-clause-turned
+returns-clause-turned g c =
+    let at = snapshot c.args.conn.now (g.L.Link.wire c.args.link.now) c.args.pass in
+    let after = snapshot c.finish.new.conn (g.L.Link.wire c.finish.new.link) c.finish.result.0 in
+    subst (λ (allowance : Option ℕ). Turned at after allowance c.finish.result.1 c.finish.result.2) c.new.ensures.allowance (c.finish.ensures.turned at (c.new.ensures.begins at))
