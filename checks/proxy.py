@@ -134,9 +134,11 @@ def check_halves(server, workers):
     lost = 44 if workers == 1 else 0
     for half in halves[:lost]:
         half.expect_end()
-    for k, half in enumerate(halves[lost:], lost):
+    # The client takes the place of one more, where it is accepted before its line has come.
+    stays = lost + 1 if lost else 0
+    for k, half in enumerate(halves[stays:], stays):
         half.send(GOOD[1 + k % (len(GOOD) - 1) :] + "#6 PING\n")
-    for half in halves[lost:]:
+    for half in halves[stays:]:
         half.expect(GREETING.decode() + "#6 PONG\n")
     for half in halves:
         half.close()
