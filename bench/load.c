@@ -10,7 +10,8 @@
 //                                                                 of eight and reset their connections, or found a battle each and send COUNT
 //                                                                 DISABLEUNITS of 2,720 words, which are refused. Two more are quiet: one sends
 //                                                                 PING, and one talks in a channel of its own
-//   load memory PORT PID CLIENTS                                  what the server holds: before, with greeted clients, with members of a channel
+//   load memory PORT PID CLIENTS                                  what the server holds: before, with greeted clients, with members of a
+//                                                                 channel, and behind ten PINGs of one of them
 //
 // Clients log in as u0001, u0002 and so on. QUIET more are greeted, and do nothing. BYTES has a delivered line, 60 if left out. gcc -O2.
 #include "common.h"
@@ -601,6 +602,22 @@ static void rest(void) {
     while (now() < end) pump(100);
 }
 
+static unsigned lines_taken;
+
+static void take_counted(struct client *client, const char *bytes, size_t count) {
+    (void)client;
+    for (size_t at = 0; at < count; at++) lines_taken += bytes[at] == '\n';
+}
+
+// One client asks, and waits for the answer, so often.
+static void ping_alone(unsigned times) {
+    take = take_counted;
+    for (unsigned time = 1; time <= times; time++) {
+        tell(clients[0].socket, "PING\n");
+        pump_until(&lines_taken, time);
+    }
+}
+
 static void run_memory(int port) {
     unsigned long before = resident();
     open_clients(port);
@@ -612,8 +629,12 @@ static void run_memory(int port) {
     rest();
     unsigned long joined = resident();
     expect_silence();
-    printf("before %lu greeted %lu joined %lu bytes_greeted %.0f bytes_joined %.0f\n", before, greeted, joined,
-           (double)(greeted - before) * 1024 / client_count, (double)(joined - before) * 1024 / client_count);
+    ping_alone(10);
+    rest();
+    unsigned long quiet = resident();
+    printf("before %lu greeted %lu joined %lu quiet %lu", before, greeted, joined, quiet);
+    printf(" bytes_greeted %.0f bytes_joined %.0f bytes_quiet %.0f\n", (double)(greeted - before) * 1024 / client_count,
+           (double)(joined - before) * 1024 / client_count, (double)(quiet - before) * 1024 / client_count);
 }
 
 int main(int count, char **words) {

@@ -409,13 +409,14 @@ log() {
 memory() {
     local name
     in_turn "ours bare" memory 2000
-    echo 'Memory that is resident: kB before, bytes a client with 2,000 greeted, and with these in one channel and quiet'
-    echo '| | Before | Greeted | In a channel |'
-    echo '|---|---|---|---|'
+    echo 'Memory that is resident: kB before, bytes a client with 2,000 greeted, with these in one channel, and ten PINGs of one later'
+    echo '| | Before | Greeted | In a channel | Ten PINGs later |'
+    echo '|---|---|---|---|---|'
     for name in ours bare; do
         figure "| $name | %.0f kB " "$name.memory.2000." 'of["before"]'
         figure '| %.0f ' "$name.memory.2000." 'of["bytes_greeted"]'
-        figure '| %.0f |\n' "$name.memory.2000." 'of["bytes_joined"]'
+        figure '| %.0f ' "$name.memory.2000." 'of["bytes_joined"]'
+        figure '| %.0f |\n' "$name.memory.2000." 'of["bytes_quiet"]'
     done
 }
 

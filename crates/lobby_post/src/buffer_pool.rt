@@ -13,9 +13,6 @@ const KEPT_ROOM: usize = 32_768;
 /// The room, in bytes, of all buffers that are kept: 8,000 for each of 2,000 clients.
 const KEPT_BYTES: usize = 16_000_000;
 
-/// The room, in bytes, of the buffers that are kept though they lie idle: what a few short lines to many want.
-const IDLE_BYTES: usize = 262_144;
-
 /// So often all that were lent come back between two looks at how many lay idle,
 const CYCLES: usize = 3;
 
@@ -29,7 +26,7 @@ const GOING: usize = 512;
 /// first, since the processor still has it at hand: so the bytes that wait at one time lie close
 /// together, however many clients there are. Those that lay idle while three times all that were lent
 /// came back, or as many as there is room for, 1,024 at least, are let go, 512 at most with each buffer
-/// that comes back: so of a burst that ended ten rounds ago little is left, 262,144 bytes or what is used.
+/// that comes back: so of a burst that ended ten rounds ago what is used is left.
 ///
 /// It keeps as many as it has room for and 16,000,000 bytes at most, and no contract speaks of them.
 #[derive(Drop)]
@@ -116,7 +113,7 @@ impl BufferPool {
         }
         self.keep(buffer);
         self.look();
-        if self.idle > 0 && self.bytes > IDLE_BYTES {
+        if self.idle > 0 {
             self.let_idle_go();
         }
     }
@@ -160,9 +157,6 @@ impl BufferPool {
     #[inline(never)]
     fn let_idle_go(&mut self) {
         for _ in 0..self.idle.min(GOING) {
-            if self.bytes <= IDLE_BYTES {
-                return;
-            }
             if let Some(buffer) = self.buffers.pop_front() {
                 self.bytes = self.bytes.saturating_sub(buffer.capacity());
                 // it lay idle, so no count would be less without it

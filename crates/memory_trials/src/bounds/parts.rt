@@ -73,13 +73,13 @@ pub static MANY_PARTS: [Part; 7] = [
         kept: 0,
     },
     Part {
-        rule: "buffers that lie idle are given back, but for 262,144 bytes",
+        rule: "buffers that lie idle are given back",
         acts: &[(3, Act::Short), (2, Act::Read(4_096)), (8_000, Act::Come)],
         before: 0,
         times: 1,
         growths: 3 * (MEMBERS + 2),
         asked: 4 * 3 * SHORT * (MEMBERS + 1),
-        kept: 262_144 + 4 * SHORT + ROUNDED,
+        kept: 4 * SHORT + ROUNDED,
     },
     Part {
         rule: "no more than 16,000,000 bytes of buffers are kept",
