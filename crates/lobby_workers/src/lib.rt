@@ -24,22 +24,23 @@
 #![tactic(auto)]
 
 mod error;
+mod gate;
 mod log_lines;
 mod log_queue;
-mod logged;
 mod record;
 mod recorded;
-mod reporter;
 mod server;
 mod sleep;
 mod workers;
+mod writer;
 
 pub use error::ServerError;
 pub use lobby_lock::{Made, Pass};
 pub use lobby_machine::HashSeed;
-pub use logged::{Log, run_server_recorded};
+pub use log_queue::Log;
 pub use record::{Record, RecordFiles};
 pub use record_lines::Masks;
+pub use recorded::run_server_recorded;
 pub use server::{Service, run_server, run_service};
 pub use worker_loop::{
     Arrival, Conn, Gate, Got, Inboxes, Link, ListenError, Sent, Turn, TurnState, Wakers,

@@ -4,10 +4,10 @@
 
 use crate::log_lines::Lines;
 use crate::sleep::WriterSleep;
+use crate::writer::{Looked, Writer, Writing};
 use server_log::{Happening, LogLevel, Started};
 use std::alloc::{AllocError, Global};
 use std::io::{ErrorKind, Write};
-use std::sync::Wait;
 use std::sync::atomic::{AtomicU64, Ordering};
 use worker_loop::StepQueue;
 
@@ -20,6 +20,15 @@ const GATHERING: u64 = 20;
 
 /// So many wake a thread that gathers.
 const MANY: u64 = WAITING as u64 / 2;
+
+/// What operators are told.
+#[derive(Drop)]
+pub struct Log {
+    /// How much.
+    pub level: LogLevel,
+    /// What server has started.
+    pub started: Started,
+}
 
 /// What waits to be written. A worker puts and never waits: what finds no place is counted as lost, and its number is
 /// written as soon as a line can be.
@@ -52,22 +61,19 @@ impl Drop for LogQueue {
     }
 }
 
-/// What a try to write came to.
-#[derive(Clone, Copy, PartialEq, Eq, Debug)]
-enum Tried {
-    /// All that waited was written.
-    Written,
-    /// Nothing waited.
-    Nothing,
-    /// Standard error takes nothing now, and was waited for.
-    Full,
-    /// Standard error failed.
-    Failed,
+/// What the thread of the log writes, and where.
+#[derive(Drop)]
+pub struct LogWriting<'a, E> {
+    /// Where it waits.
+    pub queue: &'a LogQueue,
+    errors: E,
+    lines: Lines,
 }
 
 impl LogQueue {
     /// Nothing yet. Fails only where memory is refused.
-    pub fn new(alloc: Global, level: LogLevel, started: Started) -> Result<LogQueue, AllocError> {
+    pub fn new(alloc: Global, log: Log) -> Result<LogQueue, AllocError> {
+        let Log { level, started } = log;
         let waiting = StepQueue::new(alloc, WAITING)?;
         Ok(LogQueue {
             level,
@@ -99,54 +105,18 @@ impl LogQueue {
         self.put(Happening::Started(self.started.copy()));
     }
 
-    /// Nothing more will be put.
-    pub fn end(&self) {
-        self.sleep.end();
-    }
-
-    /// Writes what is put on standard error, in pieces of whole lines, until nothing more will be. It sleeps where
-    /// nothing is there. What standard error does not take it keeps for a later try, and gives up at the end.
-    pub fn write_until_end<R: Wait, E: Write + Drop>(&self, rt: &R, errors: E, lines: Lines) {
-        let mut errors = errors;
-        let mut lines = lines;
-        for _ in rt.forever() {
-            let is_over = self.sleep.is_over();
-            self.sleep.show();
-            match self.write_waiting(&mut errors, &mut lines) {
-                Tried::Written if is_over => {}
-                Tried::Written => self.gather(rt),
-                Tried::Nothing | Tried::Full | Tried::Failed if is_over => break,
-                Tried::Full => {}
-                Tried::Nothing | Tried::Failed => self.sleep.sleep(rt),
-            }
+    /// The thread that writes what is put on standard error, in pieces of whole lines. What standard error does not
+    /// take it keeps for a later try, and gives up at the end.
+    pub fn writer<E>(&self, errors: E, lines: Lines) -> Writer<'_, LogWriting<'_, E>> {
+        let writing = LogWriting {
+            queue: self,
+            errors,
+            lines,
+        };
+        Writer {
+            sleep: &self.sleep,
+            writing,
         }
-        drop(lines);
-        drop(errors);
-    }
-
-    /// Lets lines gather for a while, until they are many or nothing more will be put.
-    fn gather<R: Wait>(&self, rt: &R) {
-        self.sleep.show_gathering();
-        if self.count.load(Ordering::SeqCst) < MANY {
-            self.sleep.gather(rt, GATHERING);
-        }
-    }
-
-    /// Writes what waits, and how many were lost.
-    fn write_waiting<E: Write>(&self, errors: &mut E, lines: &mut Lines) -> Tried {
-        let mut tried = Tried::Nothing;
-        for _ in 0..WAITING {
-            self.fill(lines);
-            if lines.is_empty() {
-                break;
-            }
-            tried = match lines.write(errors) {
-                Ok(()) => Tried::Written,
-                Err(error) if error.kind() == ErrorKind::WouldBlock => return Tried::Full,
-                Err(_) => return Tried::Failed,
-            };
-        }
-        tried
     }
 
     /// Adds what waits to the lines of a write, as far as they have room, and behind all of it how many were lost. One
@@ -167,6 +137,33 @@ impl LogQueue {
         let lost = self.lost.load(Ordering::SeqCst);
         if lost > 0 && lines.has_room() && lines.add(&Happening::Lost(lost)) {
             self.lost.fetch_sub(lost, Ordering::SeqCst);
+        }
+    }
+}
+
+impl<E: Write> Writing for LogWriting<'_, E> {
+    /// Writes what waits, and how many were lost.
+    fn write_waiting(&mut self) -> Looked {
+        let mut looked = Looked::Nothing;
+        for _ in 0..WAITING {
+            self.queue.fill(&mut self.lines);
+            if self.lines.is_empty() {
+                break;
+            }
+            looked = match self.lines.write(&mut self.errors) {
+                Ok(()) => Looked::Written,
+                Err(error) if error.kind() == ErrorKind::WouldBlock => return Looked::Full,
+                Err(_) => return Looked::Nothing,
+            };
+        }
+        looked
+    }
+
+    fn gathers_for(&self) -> u64 {
+        if self.queue.count.load(Ordering::SeqCst) < MANY {
+            GATHERING
+        } else {
+            0
         }
     }
 }

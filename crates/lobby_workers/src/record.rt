@@ -9,13 +9,11 @@ mod files;
 mod lines;
 mod place;
 mod queue;
-mod recorder;
 
 pub use end::End;
 pub use files::RecordFiles;
-pub use queue::RecordQueue;
+pub use queue::{RecordQueue, RecordWriting};
 use record_lines::Masks;
-pub use recorder::Recorder;
 use server_log::ShortText;
 
 /// A record that begins.

@@ -5,13 +5,14 @@ use crate::record::files::RecordFiles;
 use crate::record::lines::Lines;
 use crate::record::place::Place;
 use crate::sleep::WriterSleep;
+use crate::writer::{Looked, Writer, Writing};
 use lobby_model::MadeEvent;
 use record_lines::Masks;
 use server_log::Happening;
 use std::alloc::{AllocError, Global};
 use std::fs::OpenFile;
 use std::io::Write;
-use std::sync::{OnceLock, Wait};
+use std::sync::OnceLock;
 use worker_loop::Gate;
 
 /// The milliseconds for which the thread that writes lets lines gather: woken 50 times a second, in place of 10, it
@@ -49,15 +50,15 @@ impl Drop for RecordQueue {
     }
 }
 
-/// What a look at what waits came to.
-#[derive(Clone, Copy, PartialEq, Eq, Debug)]
-enum Looked {
-    /// Lines were written.
-    Written,
-    /// Nothing waited.
-    Nothing,
-    /// The record ends.
-    Ends(End),
+/// What the thread of a record writes, and where.
+#[derive(Drop)]
+pub struct RecordWriting<'a, W, G> {
+    queue: &'a RecordQueue,
+    files: RecordFiles<W>,
+    // what is told why the record ends
+    gate: &'a G,
+    // why it does: by the end of the server, if by nothing else before
+    end: End,
 }
 
 impl RecordQueue {
@@ -122,73 +123,70 @@ impl RecordQueue {
         let _ = self.end.try_set(end);
     }
 
-    /// Nothing more will be put.
-    pub fn end(&self) {
-        self.sleep.end();
-    }
-
-    /// Writes what is put to the files of the workers, until nothing more will be or the record ends, and then why it
-    /// ends, which the gate is told too. It sleeps where nothing is there.
-    pub fn write_until_end<R: Wait, W: Write + OpenFile + Drop, G: Gate>(
-        &self,
-        rt: &R,
+    /// The thread that writes what is put to the files of the workers, and once the record ends why it does, which the
+    /// gate is told too.
+    pub fn writer<'a, W, G>(
+        &'a self,
         files: RecordFiles<W>,
-        gate: &G,
-    ) {
-        let mut files = files;
-        for _ in rt.forever() {
-            // What was put before either is seen by the look.
-            let is_over = self.sleep.is_over();
-            let end = self.end.get().copied();
-            self.sleep.show();
-            match (self.write_waiting(&mut files), end) {
-                (Looked::Ends(end), _) | (Looked::Nothing, Some(end)) => {
-                    self.end_by(end);
-                    finish(&mut files, end, gate);
-                    break;
-                }
-                (Looked::Nothing, None) if is_over => {
-                    finish(&mut files, End::Stop, gate);
-                    break;
-                }
-                (Looked::Nothing, None) => self.sleep.sleep(rt),
-                (Looked::Written, _) if is_over => {}
-                (Looked::Written, _) => {
-                    self.sleep.show_gathering();
-                    self.sleep.gather(rt, GATHERING);
-                }
-            }
+        gate: &'a G,
+    ) -> Writer<'a, RecordWriting<'a, W, G>> {
+        let writing = RecordWriting {
+            queue: self,
+            files,
+            gate,
+            end: End::Stop,
+        };
+        Writer {
+            sleep: &self.sleep,
+            writing,
         }
-        drop(files);
-        // What waits behind the end of the record is let go.
-        for place in self.waiting.iter() {
-            drop(place.take());
-        }
-    }
-
-    /// Writes what waits.
-    fn write_waiting<W: Write + OpenFile + Drop>(&self, files: &mut RecordFiles<W>) -> Looked {
-        let mut looked = Looked::Nothing;
-        for (worker, place) in self.waiting.iter().enumerate() {
-            let Some(lines) = place.take() else {
-                continue;
-            };
-            match files.write(worker, lines) {
-                Ok(()) => looked = Looked::Written,
-                Err(end) => return Looked::Ends(end),
-            }
-        }
-        looked
     }
 }
 
-/// The record ends for this cause: writes that, and has operators told.
-fn finish<W: Write + OpenFile + Drop, G: Gate>(files: &mut RecordFiles<W>, end: End, gate: &G) {
-    files.finish(end);
-    gate.tell(Happening::RecordEnded {
-        reason: end.reason(),
-        place: files.last_place(),
-    });
+impl<W: Write + OpenFile + Drop, G> RecordWriting<'_, W, G> {
+    /// Writes what waits.
+    fn write_places(&mut self) -> Result<Looked, End> {
+        let mut looked = Looked::Nothing;
+        for (worker, place) in self.queue.waiting.iter().enumerate() {
+            let Some(lines) = place.take() else {
+                continue;
+            };
+            self.files.write(worker, lines)?;
+            looked = Looked::Written;
+        }
+        Ok(looked)
+    }
+}
+
+impl<W: Write + OpenFile + Drop, G: Gate> Writing for RecordWriting<'_, W, G> {
+    fn write_waiting(&mut self) -> Looked {
+        // What was put before the end is seen by the look.
+        let end = self.queue.end.get().copied();
+        match (self.write_places(), end) {
+            (Err(end), _) | (Ok(Looked::Nothing), Some(end)) => {
+                self.queue.end_by(end);
+                self.end = end;
+                Looked::Ended
+            }
+            (Ok(looked), _) => looked,
+        }
+    }
+
+    fn gathers_for(&self) -> u64 {
+        GATHERING
+    }
+
+    /// Writes why the record ends, and has operators told. What waits behind its end is let go.
+    fn finish(&mut self) {
+        self.files.finish(self.end);
+        self.gate.tell(Happening::RecordEnded {
+            reason: self.end.reason(),
+            place: self.files.last_place(),
+        });
+        for place in self.queue.waiting.iter() {
+            drop(place.take());
+        }
+    }
 }
 
 /// A place for the lines of each worker.
