@@ -1,3 +1,4 @@
-pub mod Notes
 pub mod Lines
+pub mod Notes
+pub mod Standings
 pub mod Told

@@ -2,10 +2,9 @@
 use Rattle.std.specs.Prelude.{ℕ}
 use Rattle.lobby_holds.specs.declared.turn.TurnState.{TurnState}
 
--- the key of its connection, its client, how the connection stands, the workers to be woken, and how much it told
+-- the key of its connection, how the connection stands, the workers to be woken, and how much it told
 pub record Had : Type 0 where
   pub key : ℕ
-  pub client : ℕ
   pub state : TurnState
   pub wakes : ℕ
   pub told : ℕ

@@ -5,6 +5,7 @@ pub mod Had
 pub mod Joined
 pub mod Progress
 pub mod Rung
+pub mod Shared
 pub mod Shown
 pub mod Table
 pub mod Timeouts

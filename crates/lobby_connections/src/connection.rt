@@ -59,6 +59,7 @@ impl Connection {
         ensures over { result ≡ self.new.is_over }
         ensures stays { self.old.is_over ≡ true → self.new.is_over ≡ true }
         ensures conn { self.new.conn ≡ self.old.conn }
+        ensures link { self.new.link ≡ self.old.link }
     {
         self.is_over |= self.is_ending || has_failed(&self.link);
         self.is_over

@@ -22,7 +22,7 @@ use crate::serving::{self, Served};
 use crate::wire_link::WireLink;
 use lobby_lock::{Desk, Held, Pass};
 use lobby_machine::Wakes;
-use lobby_turns::{Buffers, Conn, Gate, Progress};
+use lobby_turns::{Buffers, Conn, Gate};
 use mio::event::Event;
 use mio::net::TcpStream;
 use mio::{Registry, Token};
@@ -510,16 +510,8 @@ impl Connections {
         ensures desk { result.0.desk ≡ pass.desk }
         ensures number { result.0.worker.number ≡ pass.worker.number }
     {
-        serving::serve(
-            rt,
-            &mut self.slab,
-            &mut self.buffers,
-            key,
-            desk,
-            pass,
-            gate,
-            Progress::new(Some(allowance)),
-        )
+        let (seats, buffers) = (&mut self.slab, &mut self.buffers);
+        serving::serve(rt, seats, buffers, key, desk, pass, gate, allowance)
     }
 
     /// Sends to the client of the connection under a key what waits for it, if there is one, and does nothing else.

@@ -2,9 +2,16 @@
 //!
 //! What tells that a connection had a turn is made here alone, so that no turn is taken for had that was not.
 
-ghost use Rattle.std.specs.Prelude.{◌≡◌, ◌+◌, ◌-◌, ◌^◌, ◌||◌, ℕ, min, None, IfSome};
+ghost use Rattle.std.specs.Prelude.{◌≡◌, ◌+◌, ◌-◌, ◌^◌, ◌||◌, ℕ, List, false, min, None, IfSome};
 ghost use Rattle.lobby_post.specs.Mask.{has_home};
+ghost use Rattle.lobby_lock.specs.Passes.{ShownPass};
+ghost use Rattle.lobby_holds.specs.Snapshot.{Snapshot};
+ghost use Rattle.lobby_holds.specs.Wire.{IsFresh};
+ghost use Rattle.lobby_turns.specs.Receiving.{IsServed};
+ghost use Rattle.lobby_turns.specs.Turned.{IsUnderway, Turned};
 ghost use Rattle.lobby_connections.specs.Claims.{KeepsNotes, claims_of, note_at};
+ghost use Rattle.lobby_connections.specs.Shared.{HadTurn, ServesAt, seen};
+ghost use Rattle.lobby_connections.specs.declared.together.Standing.TheVariants as standing;
 
 use crate::connection::Connection;
 use crate::seat::Seat;
@@ -18,13 +25,20 @@ use slab::Slab;
 use std::marker::Model;
 use std::sync::Wait;
 
+/// What a turn came to.
+#[derive(Clone, Copy)]
+pub(crate) struct Ended {
+    turn: Turn,
+    told: u64,
+    // how many writes it made
+    writes: u64,
+}
+
 /// A turn that a connection had.
 #[derive(Drop)]
 pub struct Served {
     key: usize,
-    client: u64,
-    turn: Turn,
-    told: u64,
+    ended: Ended,
 }
 
 impl Model for Served {
@@ -34,14 +48,20 @@ impl Model for Served {
 
     ghost view = { λ s. record {
       key = s.key;
-      client = s.client;
-      state = s.turn.state;
-      wakes = s.turn.wakes;
-      told = s.told;
+      state = s.ended.turn.state;
+      wakes = s.ended.turn.wakes;
+      told = s.ended.told;
     } };
 }
 
 impl Served {
+    /// The turn of the connection under a key, which came to this.
+    pub(crate) fn new(key: usize, ended: Ended) -> Served
+        ensures { result.key ≡ key }
+    {
+        Served { key, ended }
+    }
+
     /// The key of its connection.
     pub fn key(&self) -> usize
         ensures { result ≡ self.now.key }
@@ -53,21 +73,26 @@ impl Served {
     pub fn state(&self) -> TurnState
         ensures { result ≡ self.now.state }
     {
-        self.turn.state
+        self.ended.turn.state
     }
 
     /// The workers whose clients it touched.
     pub fn wakes(&self) -> Wakes
         ensures { result ≡ self.now.wakes }
     {
-        self.turn.wakes
+        self.ended.turn.wakes
     }
 
     /// How much it told.
     pub fn told(&self) -> u64
         ensures { result ≡ self.now.told }
     {
-        self.told
+        self.ended.told
+    }
+
+    /// How many writes it made.
+    pub fn writes(&self) -> u64 {
+        self.ended.writes
     }
 
     /// This turn, and what it came to when it went on.
@@ -78,22 +103,50 @@ impl Served {
             ≡ (has_home self.wakes home || has_home more.wakes home) }
         ensures told { result.told ≡ min (self.told + more.told) (2 ^ 64 - 1) }
     {
+        let (first, next) = (self.ended, more.ended);
         let turn = Turn {
-            state: more.turn.state,
-            wakes: self.turn.wakes.union(more.turn.wakes),
+            state: next.turn.state,
+            wakes: first.turn.wakes.union(next.turn.wakes),
+        };
+        let ended = Ended {
+            turn,
+            told: first.told.saturating_add(next.told),
+            writes: first.writes.saturating_add(next.writes),
         };
         Served {
             key: self.key,
-            client: self.client,
-            turn,
-            told: self.told.saturating_add(more.told),
+            ended,
         }
     }
 }
 
-/// One turn of a connection, and how much it told. The client of a link that has no room for a turn is shut. Where a
-/// link is gone and memory was refused, what waits for its client is let go, and from then on the client is not served
-/// but only shut.
+/// The turn of a connection that has come so far goes on to its end, and says how much it told. The client of a link
+/// that has no room for a turn is shut.
+fn finish_or_shut<R: Wait, G: Gate>(
+    rt: &R,
+    connection: &mut Connection,
+    desk: &Desk,
+    pass: Pass,
+    gate: &G,
+    progress: Progress,
+) -> (Pass, Turn, u64)
+    requires { pass.desk ≡ desk.now }
+    ensures turned { (old : Snapshot) → connection.old.is_over ≡ false → IsFresh connection.new.link
+        → IsUnderway old (seen old.others connection.old pass) progress
+        → Turned old (seen old.others connection.new result.0) progress.allowance result.1 result.2 }
+    ensures serves { IsServed connection.old.conn connection.new.conn pass result.0 }
+    ensures desk { result.0.desk ≡ pass.desk }
+    ensures number { result.0.worker.number ≡ pass.worker.number }
+{
+    if connection.is_over() || !connection.link.fresh() {
+        return close(rt, &connection.conn, desk, pass, gate, Wakes::none());
+    }
+    let (conn, link) = (&mut connection.conn, &mut connection.link);
+    finish(rt, conn, link, desk, pass, gate, progress)
+}
+
+/// The same. Where a link is gone and memory was refused, what waits for its client is let go, and from then on the
+/// client is not served but only shut.
 fn serve_or_shut<R: Wait, G: Gate>(
     rt: &R,
     connection: &mut Connection,
@@ -103,20 +156,59 @@ fn serve_or_shut<R: Wait, G: Gate>(
     progress: Progress,
 ) -> (Pass, Turn, u64)
     requires { pass.desk ≡ desk.now }
+    ensures had { (old : Snapshot) → connection.old.is_over ≡ false → IsFresh connection.new.link
+        → IsUnderway old (seen old.others connection.old pass) progress
+        → HadTurn old connection.new result.0 progress.allowance result.1 result.2 }
+    ensures serves { IsServed connection.old.conn connection.new.conn pass result.0 }
     ensures desk { result.0.desk ≡ pass.desk }
     ensures number { result.0.worker.number ≡ pass.worker.number }
 {
-    let (pass, turn, told) = if connection.is_over() || !connection.link.fresh() {
-        close(rt, &connection.conn, desk, pass, gate, Wakes::none())
-    } else {
-        let (conn, link) = (&mut connection.conn, &mut connection.link);
-        finish(rt, conn, link, desk, pass, gate, progress)
-    };
-    if turn.state != TurnState::Memory || !connection.refuse() {
+    let (pass, turn, told) = finish_or_shut(rt, connection, desk, pass, gate, progress);
+    if turn.state != TurnState::Memory {
+        return (pass, turn, told);
+    }
+    if !connection.refuse() {
         return (pass, turn, told);
     }
     let pass = give_up_unread(rt, &connection.conn, desk, pass, gate);
     (pass, turn, told)
+}
+
+/// The turn of the connection under a key that has come so far goes on to its end, with buffers that are lent to it.
+/// None where there is no connection.
+pub(crate) fn finish_at<R: Wait, G: Gate>(
+    rt: &R,
+    seats: &mut Slab<Seat>,
+    buffers: &mut Buffers,
+    key: usize,
+    desk: &Desk,
+    pass: Pass,
+    gate: &G,
+    progress: Progress,
+) -> (Pass, Option<Ended>)
+    requires { pass.desk ≡ desk.now }
+    ensures notes { KeepsNotes seats.old seats.new }
+    ensures none { result.1 ≡ None → note_at (claims_of seats.old) key ≡ None }
+    ensures gone { result.1 ≡ None → (seats.new ≡ seats.old) × (result.0 ≡ pass) }
+    ensures serves { IfSome result.1 (λ ended. (start : ShownPass) (most : ℕ)
+        → ServesAt start seats.old pass seats.new result.0 most key
+        (standing.Underway progress) (standing.Over ended)) }
+    ensures desk { result.0.desk ≡ pass.desk }
+    ensures number { result.0.worker.number ≡ pass.worker.number }
+{
+    let Some(seat) = seats.get_mut(key) else {
+        return (pass, None);
+    };
+    let connection = &mut seat.connection;
+    connection.conn.lend(buffers);
+    let written = connection.link.writes();
+    let (pass, turn, told) = serve_or_shut(rt, connection, desk, pass, gate, progress);
+    let ended = Ended {
+        turn,
+        told,
+        writes: connection.link.writes().wrapping_sub(written),
+    };
+    (pass, Some(ended))
 }
 
 /// The connection under a key has a turn, in which it may tell so much, with buffers that are lent to it. None where
@@ -129,7 +221,7 @@ pub(crate) fn serve<R: Wait, G: Gate>(
     desk: &Desk,
     pass: Pass,
     gate: &G,
-    progress: Progress,
+    allowance: u64,
 ) -> (Pass, Option<Served>)
     requires { pass.desk ≡ desk.now }
     ensures notes { KeepsNotes seats.old seats.new }
@@ -138,25 +230,17 @@ pub(crate) fn serve<R: Wait, G: Gate>(
     ensures desk { result.0.desk ≡ pass.desk }
     ensures number { result.0.worker.number ≡ pass.worker.number }
 {
-    let Some(seat) = seats.get_mut(key) else {
-        return (pass, None);
-    };
-    let connection = &mut seat.connection;
-    connection.conn.lend(buffers);
-    let client = connection.conn.client();
-    let (pass, turn, told) = serve_or_shut(rt, connection, desk, pass, gate, progress);
-    let served = Served {
-        key,
-        client,
-        turn,
-        told,
-    };
-    (pass, Some(served))
+    let progress = Progress::new(Some(allowance));
+    let (pass, ended) = finish_at(rt, seats, buffers, key, desk, pass, gate, progress);
+    match ended {
+        Some(ended) => (pass, Some(Served::new(key, ended))),
+        None => (pass, None),
+    }
 }
 
 /// Takes back the buffers that were lent to the connection under a key.
 pub(crate) fn settle(seats: &mut Slab<Seat>, buffers: &mut Buffers, key: usize)
-    ensures { KeepsNotes seats.old seats.new }
+    ensures { seats.new ≡ seats.old }
 {
     if let Some(seat) = seats.get_mut(key) {
         seat.connection.conn.settle(buffers);

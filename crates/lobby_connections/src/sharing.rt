@@ -1,17 +1,18 @@
 //! Turns that share holds of the lobby: each connection is read without the lobby, then the lines of all are said and
 //! each is drained in as few holds as can be, and then each is written.
 
-ghost use Rattle.std.specs.Prelude.{◌≡◌, ◌<◌, length, slice_index_or, None, IfSome};
+ghost use Rattle.std.specs.Prelude.{◌≡◌, ◌≢◌, ◌<◌, ◌≤◌, ℕ, length, slice_index_or};
+ghost use Rattle.lobby_lock.specs.Passes.{ShownPass, pass_after};
 ghost use Rattle.lobby_holds.specs.Holds.{Stands};
-ghost use Rattle.lobby_connections.specs.Attended.{Owes};
-ghost use Rattle.lobby_connections.specs.Claims.{KeepsNotes, claims_of, note_at};
+ghost use Rattle.lobby_connections.specs.Claims.{KeepsNotes, claims_of};
 ghost use Rattle.lobby_connections.specs.Joined.{keys_in};
+ghost use Rattle.lobby_connections.specs.Shared.{AllStand, GoOn, IsHad, Seats, Serves, ServesAt};
 
 use crate::connection::Connection;
 use crate::connections::Connections;
 use crate::seat::Seat;
-use crate::serving::{self, Served};
-use crate::together::{TOGETHER, Together};
+use crate::serving::{finish_at, settle};
+use crate::together::{Standing, TOGETHER, Together};
 use lobby_lock::{Desk, Held, MOST_EVENTS, Pass};
 use lobby_turns::{Buffers, Gate, GatedDesk, Link, Progress, gather, share_hold};
 use slab::Slab;
@@ -22,25 +23,28 @@ use std::sync::Wait;
 /// line and for what is drained behind it.
 const MOST_BEFORE: usize = MOST_EVENTS - 9;
 
-/// A connection's turn begins: it is read, without the lobby. None where its client is only to be shut.
+/// A connection's turn begins, and may tell so much: it is read, without the lobby. It waits where its client is only
+/// to be shut.
 fn gather_one<R: Wait, G: Gate>(
     rt: &R,
     connection: &mut Connection,
     desk: &GatedDesk<'_, G>,
     pass: Pass,
-) -> (Pass, Option<Progress>)
+    allowance: u64,
+) -> (Pass, Standing)
     requires { pass.desk ≡ desk.now.desk.now }
-    ensures { result.0 ≡ pass }
+    ensures gathers { Serves pass connection.old pass connection.new pass allowance Standing.Waits result.1 }
+    ensures pass { result.0 ≡ pass }
 {
     if connection.is_over() || !connection.link.fresh() {
-        return (pass, None);
+        return (pass, Standing::Waits);
     }
     let (conn, link) = (&mut connection.conn, &mut connection.link);
-    let (pass, progress) = gather(rt, conn, link, desk.desk, pass, desk.gate);
-    (pass, Some(progress))
+    let (pass, progress) = gather(rt, conn, link, desk.desk, pass, desk.gate, Some(allowance));
+    (pass, Standing::Underway(progress))
 }
 
-/// The turn of the connection under a key begins, with buffers that are lent to it.
+/// The turn of the connection under a key begins, and may tell so much, with buffers that are lent to it.
 fn gather_at<R: Wait, G: Gate>(
     rt: &R,
     seats: &mut Slab<Seat>,
@@ -48,20 +52,22 @@ fn gather_at<R: Wait, G: Gate>(
     key: usize,
     desk: &GatedDesk<'_, G>,
     pass: Pass,
-) -> (Pass, Option<Progress>)
+    allowance: u64,
+) -> (Pass, Standing)
     requires { pass.desk ≡ desk.now.desk.now }
     ensures notes { KeepsNotes seats.old seats.new }
+    ensures gathers { ServesAt pass seats.old pass seats.new pass allowance key Standing.Waits result.1 }
     ensures pass { result.0 ≡ pass }
 {
     let Some(seat) = seats.get_mut(key) else {
-        return (pass, None);
+        return (pass, Standing::Waits);
     };
     let connection = &mut seat.connection;
     connection.conn.lend(buffers);
-    gather_one(rt, connection, desk, pass)
+    gather_one(rt, connection, desk, pass, allowance)
 }
 
-/// All are read, without the lobby. For whom there are no buffers, the turn begins later.
+/// All are read, without the lobby, for whom there are buffers.
 fn gather_all<R: Wait, G: Gate>(
     rt: &R,
     seats: &mut Slab<Seat>,
@@ -73,6 +79,11 @@ fn gather_all<R: Wait, G: Gate>(
     requires { pass.desk ≡ desk.now.desk.now }
     ensures notes { KeepsNotes seats.old seats.new }
     ensures keys { keys_in together.new ≡ keys_in together.old }
+    ensures allowance { together.new.allowance ≡ together.old.allowance }
+    ensures gathers { (first : Seats)
+        → AllStand first pass seats.old pass together.old.allowance (keys_in together.old) together.old.standings
+        → AllStand first pass seats.new pass together.old.allowance (keys_in together.new) together.new.standings }
+    ensures buffers { length buffers.new.items ≡ length buffers.old.items }
     ensures pass { result ≡ pass }
 {
     let mut pass = pass;
@@ -80,9 +91,13 @@ fn gather_all<R: Wait, G: Gate>(
         let Some(lent) = buffers.get_mut(place) else {
             break;
         };
-        let (next, progress) = gather_at(rt, seats, lent, together.key_at(place), desk, pass);
+        let Standing::Waits = together.standing_at(place) else {
+            continue;
+        };
+        let (key, allowance) = (together.key_at(place), together.allowance());
+        let (next, standing) = gather_at(rt, seats, lent, key, desk, pass, allowance);
         pass = next;
-        together.begin(place, progress);
+        together.stand(place, standing);
     }
     pass
 }
@@ -99,6 +114,9 @@ fn say_at<G: Gate>(
     requires few { length held.old.events < MOST_EVENTS }
     requires stands { Stands held.old }
     ensures notes { KeepsNotes seats.old seats.new }
+    ensures says { (start : ShownPass) (most : ℕ) → allowance ≤ most
+        → ServesAt start seats.old (pass_after held.old) seats.new (pass_after held.new) most key
+        (Standing.Underway progress) (Standing.Underway result) }
     ensures pass { held.new.pass ≡ held.old.pass }
 {
     let Some(seat) = seats.get_mut(key) else {
@@ -120,18 +138,19 @@ fn speak_at<G: Gate>(
     requires few { length held.old.events < MOST_EVENTS }
     requires stands { Stands held.old }
     ensures notes { KeepsNotes seats.old seats.new }
-    ensures keys { keys_in together.new ≡ keys_in together.old }
+    ensures speaks { GoOn seats.old (pass_after held.old) together.old seats.new (pass_after held.new) together.new }
     ensures pass { held.new.pass ≡ held.old.pass }
 {
-    let Some(progress) = together.progress_at(place) else {
+    let Standing::Underway(progress) = together.standing_at(place) else {
         return;
     };
     if !progress.speaks() {
         return;
     }
-    let (key, allowance) = (together.key_at(place), together.allowance);
+    let (key, allowance) = (together.key_at(place), together.allowance());
     let progress = say_at(seats, key, held, gate, progress, allowance);
-    together.go_on(place, progress);
+    together.stand(place, Standing::Underway(progress));
+    together.spend(progress.told());
 }
 
 /// They say their lines in a hold that has none yet, from this place on, while it has place. The place behind the last.
@@ -144,7 +163,7 @@ fn speak_from<G: Gate>(
 ) -> usize
     requires stands { Stands held.old }
     ensures notes { KeepsNotes seats.old seats.new }
-    ensures keys { keys_in together.new ≡ keys_in together.old }
+    ensures speaks { GoOn seats.old (pass_after held.old) together.old seats.new (pass_after held.new) together.new }
     ensures pass { held.new.pass ≡ held.old.pass }
 {
     for place in first..together.count() {
@@ -166,7 +185,7 @@ fn speak_all<R: Wait, G: Gate>(
 ) -> Pass
     requires { pass.desk ≡ desk.now.desk.now }
     ensures notes { KeepsNotes seats.old seats.new }
-    ensures keys { keys_in together.new ≡ keys_in together.old }
+    ensures speaks { GoOn seats.old pass together.old seats.new result together.new }
     ensures desk { result.desk ≡ pass.desk }
     ensures number { result.worker.number ≡ pass.worker.number }
 {
@@ -194,28 +213,95 @@ fn make_all(alloc: Global, buffers: &mut Vec<Buffers>) -> bool {
     true
 }
 
-/// The connection under a key has the rest of a turn, with buffers that are lent to it.
-fn serve_with<R: Wait, G: Gate>(
+/// The turn of the one in this place goes on to its end, with these buffers.
+fn finish_with<R: Wait, G: Gate>(
     rt: &R,
     seats: &mut Slab<Seat>,
     buffers: &mut Buffers,
-    key: usize,
+    together: &mut Together,
+    place: usize,
     desk: &GatedDesk<'_, G>,
     pass: Pass,
-    progress: Progress,
-) -> (Pass, Option<Served>)
+) -> Pass
+    requires place { place < length (keys_in together.old) }
+    requires desk { pass.desk ≡ desk.now.desk.now }
+    ensures notes { KeepsNotes seats.old seats.new }
+    ensures finishes { GoOn seats.old pass together.old seats.new result together.new }
+    ensures had { IsHad (claims_of seats.old) together.new place }
+    ensures others { (other : ℕ) → other ≢ place → slice_index_or together.new.standings other Standing.Waits
+        ≡ slice_index_or together.old.standings other Standing.Waits }
+    ensures desk { result.desk ≡ pass.desk }
+    ensures number { result.worker.number ≡ pass.worker.number }
+{
+    let progress = match together.standing_at(place) {
+        Standing::Waits => Progress::new(Some(together.allowance())),
+        Standing::Underway(progress) => progress,
+        Standing::Over(_) => return pass,
+    };
+    let key = together.key_at(place);
+    let (desk, gate) = (desk.desk, desk.gate);
+    let (pass, ended) = finish_at(rt, seats, buffers, key, desk, pass, gate, progress);
+    settle(seats, buffers, key);
+    if let Some(ended) = ended {
+        together.stand(place, Standing::Over(ended));
+    }
+    pass
+}
+
+/// The turns of all go on to their ends for whom there are buffers.
+fn finish_all<R: Wait, G: Gate>(
+    rt: &R,
+    seats: &mut Slab<Seat>,
+    buffers: &mut Vec<Buffers>,
+    together: &mut Together,
+    desk: &GatedDesk<'_, G>,
+    pass: Pass,
+) -> Pass
     requires { pass.desk ≡ desk.now.desk.now }
     ensures notes { KeepsNotes seats.old seats.new }
-    ensures key { IfSome result.1 (λ had. had.key ≡ key) }
-    ensures none { result.1 ≡ None → note_at (claims_of seats.old) key ≡ None }
-    ensures desk { result.0.desk ≡ pass.desk }
-    ensures number { result.0.worker.number ≡ pass.worker.number }
+    ensures finishes { GoOn seats.old pass together.old seats.new result together.new }
+    ensures had { (place : ℕ) → place < length (keys_in together.old) → place < length buffers.old.items
+        → IsHad (claims_of seats.old) together.new place }
+    ensures desk { result.desk ≡ pass.desk }
+    ensures number { result.worker.number ≡ pass.worker.number }
 {
-    let (pass, served) = serving::serve(
-        rt, seats, buffers, key, desk.desk, pass, desk.gate, progress,
-    );
-    serving::settle(seats, buffers, key);
-    (pass, served)
+    let mut pass = pass;
+    for place in 0..together.count() {
+        let Some(lent) = buffers.get_mut(place) else {
+            break;
+        };
+        pass = finish_with(rt, seats, lent, together, place, desk, pass);
+    }
+    pass
+}
+
+/// Those whose turns share holds get them, and may tell so much: all are read, without the lobby; then the lines of all
+/// are said, and each is drained behind them, in few holds; and then each is written, and its turn goes on to its end.
+/// For whom there are no buffers, the turn does not begin.
+///
+/// What a turn by itself does holds of each, whatever the worker does for the others meanwhile.
+fn serve_together<R: Wait, G: Gate>(
+    rt: &R,
+    seats: &mut Slab<Seat>,
+    buffers: &mut Vec<Buffers>,
+    together: &mut Together,
+    desk: &GatedDesk<'_, G>,
+    pass: Pass,
+    allowance: u64,
+) -> Pass
+    requires { pass.desk ≡ desk.now.desk.now }
+    ensures notes { KeepsNotes seats.old seats.new }
+    ensures keys { keys_in together.new ≡ keys_in together.old }
+    ensures turns { AllStand seats.old pass seats.new result allowance (keys_in together.new) together.new.standings }
+    ensures had { (place : ℕ) → place < length (keys_in together.old) → place < length buffers.old.items
+        → IsHad (claims_of seats.old) together.new place }
+    ensures desk { result.desk ≡ pass.desk }
+    ensures number { result.worker.number ≡ pass.worker.number }
+{
+    together.begin(allowance);
+    let pass = gather_all(rt, seats, buffers, together, desk, pass);
+    let pass = speak_all(rt, seats, together, desk, pass);
+    finish_all(rt, seats, buffers, together, desk, pass)
 }
 
 impl Connections {
@@ -226,8 +312,8 @@ impl Connections {
         make_all(self.alloc, &mut self.more_buffers)
     }
 
-    /// Those whose turns share holds are read, and then their lines are said, and each is drained.
-    pub fn share_holds<R: Wait, G: Gate>(
+    /// Those whose turns share holds get them, and may tell as much as is left of the round.
+    pub fn serve_together<R: Wait, G: Gate>(
         &mut self,
         rt: &R,
         together: &mut Together,
@@ -241,48 +327,9 @@ impl Connections {
         ensures desk { result.desk ≡ pass.desk }
         ensures number { result.worker.number ≡ pass.worker.number }
     {
+        let allowance = self.allowance();
         let gated = GatedDesk { desk, gate };
-        together.allow(self.allowance());
-        let buffers = &mut self.more_buffers;
-        let pass = gather_all(rt, &mut self.slab, buffers, together, &gated, pass);
-        speak_all(rt, &mut self.slab, together, &gated, pass)
-    }
-
-    /// The turn of the one in this place of those that shared holds goes on to its end. None where there is none.
-    pub fn finish_turn<R: Wait, G: Gate>(
-        &mut self,
-        rt: &R,
-        together: &Together,
-        place: usize,
-        desk: &Desk,
-        pass: Pass,
-        gate: &G,
-    ) -> (Pass, Option<Served>)
-        requires place { place < length (keys_in together.now) }
-        requires desk { pass.desk ≡ desk.now }
-        ensures table { self.new ≡ self.old }
-        ensures key { IfSome result.1 (λ had. had.key ≡ slice_index_or (keys_in together.now) place 0) }
-        ensures none { result.1 ≡ None → Owes self.old (slice_index_or (keys_in together.now) place 0) → ⊥ }
-        ensures desk { result.0.desk ≡ pass.desk }
-        ensures number { result.0.worker.number ≡ pass.worker.number }
-    {
-        let gated = GatedDesk { desk, gate };
-        let key = together.key_at(place);
-        let progress = match together.progress_at(place) {
-            Some(progress) => progress,
-            None => Progress::new(Some(self.allowance())),
-        };
-        match self.more_buffers.get_mut(place) {
-            Some(lent) => serve_with(rt, &mut self.slab, lent, key, &gated, pass, progress),
-            None => serve_with(
-                rt,
-                &mut self.slab,
-                &mut self.buffers,
-                key,
-                &gated,
-                pass,
-                progress,
-            ),
-        }
+        let (seats, buffers) = (&mut self.slab, &mut self.more_buffers);
+        serve_together(rt, seats, buffers, together, &gated, pass, allowance)
     }
 }

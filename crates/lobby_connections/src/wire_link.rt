@@ -13,6 +13,7 @@ use mio::event::Event;
 use mio::net::TcpStream;
 use mio::{Interest, Registry, Token};
 use std::io::{self, ErrorKind, Read, Write};
+use std::marker::Model;
 use std::net::Shutdown;
 
 /// So often a call that a signal broke off is tried before it counts as a failure.
@@ -43,10 +44,28 @@ pub struct WireLink {
     written: Log<u8, ()>,
 }
 
+impl Model for WireLink {
+    ghost use Rattle.std.specs.Prelude.{Some};
+    ghost use Rattle.lobby_connections.specs.Gathered.{gathered};
+    ghost use Rattle.lobby_holds.specs.Wire.{Wire};
+
+    ghost Value = { Wire };
+
+    ghost view = { λ l. record {
+      reads = l.reads;
+      writes = l.writes;
+      failures = l.failures;
+      read = Some (gathered l.read.items);
+      written = Some (gathered l.written.items);
+      last_got = l.last_got;
+      last_sent = l.last_sent;
+    } };
+}
+
 impl WireLink {
     /// The link over a socket on which it made no call.
     pub fn new(stream: TcpStream) -> WireLink
-        ensures { ⟦<WireLink as Link>⟧.wire result ≡ untouched }
+        ensures { result ≡ untouched }
     {
         WireLink {
             stream,
@@ -65,7 +84,7 @@ impl WireLink {
     /// Has a poll tell under this token when the socket has something to read, and when it takes bytes
     /// again. Fails where the system refuses it.
     pub fn register(&mut self, registry: &Registry, token: Token) -> io::Result<()>
-        ensures { ⟦<WireLink as Link>⟧.wire self.new ≡ ⟦<WireLink as Link>⟧.wire self.old }
+        ensures { self.new ≡ self.old }
     {
         registry.register(
             &mut self.stream,
@@ -76,14 +95,14 @@ impl WireLink {
 
     /// How many writes it made.
     pub fn writes(&self) -> u64
-        ensures { result ≡ (⟦<WireLink as Link>⟧.wire self.now).writes }
+        ensures { result ≡ self.now.writes }
     {
         self.writes
     }
 
     /// Notes what a poll told of the socket. It is to be called before the next read, with each event of each poll.
     pub fn note(&mut self, event: &Event)
-        ensures { ⟦<WireLink as Link>⟧.wire self.new ≡ ⟦<WireLink as Link>⟧.wire self.old }
+        ensures { self.new ≡ self.old }
     {
         self.is_readable = true;
         self.stays_readable |= event.is_read_closed() || event.is_error() || event.is_priority();
@@ -171,20 +190,7 @@ fn note(log: &mut Log<u8, ()>, bytes: &[u8])
 }
 
 impl Link for WireLink {
-    ghost use Rattle.std.specs.Prelude.{Some};
-    ghost use Rattle.lobby_connections.specs.Gathered.{gathered};
-
-    ghost wire = { λ l. record {
-      reads = l.reads;
-      writes = l.writes;
-      failures = l.failures;
-      read = Some
-          (gathered l.read.items);
-      written = Some (gathered l.written.items);
-      last_got = l.last_got;
-      last_sent =
-          l.last_sent;
-    } };
+    ghost wire = { λ l. l };
 
     fn read(&mut self, into: &mut [u8]) -> Got {
         self.reads += 1;

@@ -322,6 +322,10 @@ made_may_go_on a b n fresh h few = record { reads = omega (arith, fresh.reads, h
 pub made_may_send : (a b : Wire) (n : ℕ) → IsFresh a → MadeReads a b n → n ≤ 16 → MaySend b 16
 made_may_send a b n fresh h few = record { reads_place = omega (arith, fresh.reads, h.reads, few); writes_place = omega (arith, fresh.writes, h.writes); failures_place = omega (arith, fresh.failures, h.failures, few) }
 
+-- behind one step more
+pub last_may_send : (a b c : Wire) (n : ℕ) → IsFresh a → MadeReads a b n → MadeReads b c 1 → n < 16 → MaySend c 16
+last_may_send a b c n fresh h k few = made_may_send a c (n + 1) fresh (made_then a b c n 1 (n + 1) h k (omega arith)) (omega (arith, few))
+
 -- ---- where receiving ends
 
 ended : (a c : Snapshot) (m k p : ℕ) (share : Share) (wakes : ℕ) (how : ReceiveState) → m ≤ 64 → k ≤ 16 → p ≤ 65536 → (a.wire.last_got ≡ Some got.End → k ≡ 0) → (h : ReceivesSome a c m k p wakes share.told) → ReceivedIs a c share h.says.talk how

@@ -2,6 +2,7 @@
 use Rattle.std.specs.Prelude.{◌≡◌, ◌≢◌, ◌⊎◌, ℕ, ◌+◌, ◌-◌, ◌*◌, ◌^◌, ◌<◌, ◌≤◌, Bool, true, false, List, []}
 use Rattle.std.specs.Prelude.{length, Option, Some}
 use Rattle.std.specs.Option.{option_map}
+use Rattle.lobby_lock.specs.Passes.{ShownPass}
 use Rattle.lobby_post.specs.Mask.{has_home}
 use Rattle.client_session.specs.declared.session.Next.TheVariants.{Nothing, Spoilt}
 use Rattle.client_session.specs.OneSession.{IsNextOf, HasLineNext}
@@ -18,7 +19,7 @@ use Rattle.lobby_holds.specs.Wire.{Wire, ReadsBytes}
 use Rattle.lobby_holds.specs.Moments.{Moment, requests, touched, told_end, work_of}
 use Rattle.lobby_holds.specs.Snapshot.{Carried, Snapshot}
 use Rattle.lobby_holds.specs.Talk.{AreTalk}
-use Rattle.lobby_holds.specs.Went.{Went}
+use Rattle.lobby_holds.specs.Went.{JoinedAmong, Went}
 use Rattle.lobby_holds.specs.declared.holds.Chunk.{Chunk}
 use Rattle.lobby_holds.specs.declared.holds.Said.{Said}
 use Rattle.lobby_holds.specs.Holds.{AreSaid, DrainsBehind, DrainsRest, IsWithin, SaysLines}
@@ -263,3 +264,11 @@ pub record MadeReads (old new : Wire) (most : ℕ) : Type 0 where
   pub reads : new.reads ≤ old.reads + most
   pub writes : new.writes ≡ old.writes
   pub failures : new.failures ≤ old.failures + most
+
+-- ---- what others see of a connection that is served
+
+-- its client is the same, and between these passes the worker made events that speak for that client, and no others
+pub record IsServed (old new : Carried) (p q : ShownPass) : Type 0 where
+  pub client : new.session.client ≡ old.session.client
+  pub turn : List Moment
+  pub joined : JoinedAmong [] old.session.client p q turn

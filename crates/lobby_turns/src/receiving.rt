@@ -1,7 +1,8 @@
 //! The half of a turn that receives from the client: what its link gives is fed to its session, whole lines are said to
 //! the lobby, and where none is left, the link is read.
 
-ghost use Rattle.std.specs.Prelude.{◌≡◌, ◌≢◌, ℕ, ◌+◌, ◌^◌, ◌<◌, ◌≤◌, ◌||◌, List, [], length, Option, Some, true, false};
+ghost use Rattle.std.specs.Prelude.{◌≡◌, ◌≢◌, ◌⊎◌, ℕ, ◌+◌, ◌^◌, ◌<◌, ◌≤◌, ◌||◌, List, [], length, Option, Some};
+ghost use Rattle.std.specs.Prelude.{true, false};
 ghost use Rattle.lobby_lock.specs.Passes.{ShownPass, pass_after};
 ghost use Rattle.client_session.specs.declared.session.Next.TheVariants.{Nothing};
 ghost use Rattle.client_session.specs.OneSession.{HasLineNext, IsNextOf};
@@ -10,8 +11,8 @@ ghost use Rattle.lobby_holds.specs.Snapshot.{Snapshot, among};
 ghost use Rattle.lobby_holds.specs.Went.{Went};
 ghost use Rattle.lobby_holds.specs.Holds.{Stands};
 ghost use Rattle.lobby_post.specs.Mask.{has_home};
-ghost use Rattle.lobby_turns.specs.Receiving.{GaveBytes, IsAtStage, IsReceived, IsReceiving, LimitIs, ReceivesStep};
-ghost use Rattle.lobby_turns.specs.Receiving.{Share, StaysWithin, left_of, share_of};
+ghost use Rattle.lobby_turns.specs.Receiving.{GaveBytes, IsAtStage, IsReceived, IsReceiving, IsServed, LimitIs};
+ghost use Rattle.lobby_turns.specs.Receiving.{ReceivesStep, Share, StaysWithin, left_of, share_of};
 ghost use Rattle.lobby_turns.specs.Sending.{MaySend};
 
 use client_session::Next;
@@ -293,6 +294,16 @@ impl Receiving {
             all,
         }
     }
+
+    /// Whether it came to a limit of a turn.
+    fn is_at_limit(&self) -> bool
+        ensures most { result ≡ true
+            → (64 ≤ self.now.lines) ⊎ ((16 ≤ self.now.reads) ⊎ (65536 ≤ self.now.bytes)) }
+        ensures room { result ≡ false
+            → (self.now.lines < 64) × (self.now.reads < 16) × (self.now.bytes < 65536) }
+    {
+        self.lines >= LINES || self.reads >= READS || self.bytes >= BYTES
+    }
 }
 
 /// Where the half of a turn that receives stands.
@@ -366,68 +377,54 @@ pub(crate) fn receive<R: Wait, L: Link, G: Gate>(
         → IsAtStage old (among old.others conn.old (L.wire link.old) pass) allowance (Stage.Receives from)
         → IsAtStage old (among old.others conn.new (L.wire link.new) result.0) allowance result.1 }
     ensures over { speaks ≡ true → IsReceived result.1 }
+    ensures serves { IsServed conn.old conn.new pass result.0 }
     ensures wire { MaySend (L.wire link.new) 16 }
     ensures pass { speaks ≡ false → result.0 ≡ pass }
     ensures desk { result.0.desk ≡ pass.desk }
     ensures number { result.0.worker.number ≡ pass.worker.number }
 {
     let mut pass = pass;
-    let Receiving {
-        mut lines,
-        mut reads,
-        mut bytes,
-        is_dry,
-        mut all,
-    } = from;
-    let mut is_dry = is_dry_still(conn, is_dry);
+    let mut at = from;
+    at.is_dry = is_dry_still(conn, at.is_dry);
     let mut looks = false;
-    while lines < LINES && reads < READS && bytes < BYTES {
+    while !at.is_at_limit() {
         let left = Left {
-            lines: LINES - lines,
-            bytes: BYTES - bytes,
-            told: left_to_tell(allowance, all.told),
+            lines: LINES - at.lines,
+            bytes: BYTES - at.bytes,
+            told: left_to_tell(allowance, at.all.told),
             looks,
-            is_dry,
+            is_dry: at.is_dry,
         };
         let (next, step) = next_step(rt, conn, link, desk, pass, left, speaks);
         pass = next;
         looks = false;
         match step {
             Step::Said(said) => {
-                all = all.and(said.wakes, said.told);
-                lines += said.lines;
+                at.all = at.all.and(said.wakes, said.told);
+                at.lines += said.lines;
                 if said.refused {
-                    return (pass, Stage::Received(ReceiveState::Memory, all, None));
+                    return (pass, Stage::Received(ReceiveState::Memory, at.all, None));
                 }
             }
             Step::Drained(said, piece) => {
-                all = all.and(said.wakes, said.told);
+                let all = at.all.and(said.wakes, said.told);
                 return (pass, Stage::Received(ReceiveState::All, all, Some(piece)));
             }
             Step::Read(count) => {
-                reads += 1;
-                bytes += count;
+                at.reads += 1;
+                at.bytes += count;
                 looks = link.is_likely_empty();
             }
             Step::Dry => {
-                reads += 1;
-                is_dry = true;
+                at.reads += 1;
+                at.is_dry = true;
             }
-            Step::Waits => {
-                let at = Receiving {
-                    lines,
-                    reads,
-                    bytes,
-                    is_dry,
-                    all,
-                };
-                return (pass, Stage::Receives(at));
-            }
-            Step::Done => return (pass, Stage::Received(ReceiveState::All, all, None)),
-            Step::Ends(state) => return (pass, Stage::Received(state, all, None)),
+            Step::Waits => return (pass, Stage::Receives(at)),
+            Step::Done => return (pass, Stage::Received(ReceiveState::All, at.all, None)),
+            Step::Ends(state) => return (pass, Stage::Received(state, at.all, None)),
         }
     }
-    (pass, Stage::Received(stop_at_limit(conn), all, None))
+    (pass, Stage::Received(stop_at_limit(conn), at.all, None))
 }
 
 /// Says the next lines to the lobby in a hold that goes on and has place for one, for a turn that may tell so much, if
@@ -445,6 +442,7 @@ pub(crate) fn speak<G: Gate>(
     ensures speaks { (old : Snapshot) (wire : Wire)
         → IsAtStage old (among old.others conn.old wire (pass_after held.old)) allowance (Stage.Receives from)
         → IsAtStage old (among old.others conn.new wire (pass_after held.new)) allowance result }
+    ensures serves { IsServed conn.old conn.new (pass_after held.old) (pass_after held.new) }
     ensures pass { held.new.pass ≡ held.old.pass }
 {
     if from.lines >= LINES || !conn.is_fed() {
@@ -466,10 +464,8 @@ pub(crate) fn speak<G: Gate>(
         None if said.refused => Stage::Received(ReceiveState::Memory, all, None),
         None => Stage::Receives(Receiving {
             lines: from.lines + said.lines,
-            reads: from.reads,
-            bytes: from.bytes,
-            is_dry: from.is_dry,
             all,
+            ..from
         }),
     }
 }

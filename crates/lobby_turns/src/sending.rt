@@ -7,6 +7,7 @@ ghost use Rattle.lobby_holds.specs.Wire.{MayGoOn, Wire};
 ghost use Rattle.lobby_holds.specs.Snapshot.{Snapshot, among};
 ghost use Rattle.lobby_holds.specs.Went.{Went};
 ghost use Rattle.lobby_holds.specs.Holds.{Asks, Drains, DrainsBehind};
+ghost use Rattle.lobby_turns.specs.Receiving.{IsServed};
 ghost use Rattle.lobby_turns.specs.Sending.{OnlyWrites, SendsNext, Sending, Sends, Writes, MaySend, MaySendOn};
 
 use lobby_holds::holds::{self, Chunk};
@@ -76,8 +77,8 @@ fn send_link<L: Link, G: Gate>(
         → OnlyWrites before (among others conn.old (L.wire link.old) pass) 0
         → SendsNext before (among others conn.new (L.wire link.new) result.0) result.1 }
     ensures goes { MaySend (L.wire link.old) 16 → MaySendOn (L.wire link.new) result.1 }
-    ensures desk { result.0.desk ≡ pass.desk }
-    ensures number { result.0.worker.number ≡ pass.worker.number }
+    ensures client { conn.new.session.client ≡ conn.old.session.client }
+    ensures pass { result.0 ≡ pass }
 {
     match write_rest(conn, link, gate, pass.number()) {
         Sent::Took(_) => {
@@ -106,8 +107,8 @@ fn send_piece<L: Link, G: Gate>(
         → OnlyWrites before (among others conn.old (L.wire link.old) pass) 0
         → SendsNext before (among others conn.new (L.wire link.new) result.0) result.1 }
     ensures goes { MaySend (L.wire link.old) 16 → MaySendOn (L.wire link.new) result.1 }
-    ensures desk { result.0.desk ≡ pass.desk }
-    ensures number { result.0.worker.number ≡ pass.worker.number }
+    ensures client { conn.new.session.client ≡ conn.old.session.client }
+    ensures pass { result.0 ≡ pass }
 {
     if piece.finished {
         return (pass, SendState::Finished);
@@ -176,6 +177,7 @@ pub(crate) fn send<R: Wait, L: Link, G: Gate>(
     ensures sends { (before : Snapshot) (others : List ℕ)
         → DrainsBehind before (among others conn.old (L.wire link.old) pass) drained
         → Sends before (among others conn.new (L.wire link.new) result.0) result.1 }
+    ensures serves { IsServed conn.old conn.new pass result.0 }
     ensures desk { result.0.desk ≡ pass.desk }
     ensures number { result.0.worker.number ≡ pass.worker.number }
 {
@@ -227,6 +229,7 @@ fn send_on<R: Wait, L: Link, G: Gate>(
     ensures sends { (old before : Snapshot) (others : List ℕ) → Sending old before 0
         → SendsNext before (among others conn.old (L.wire link.old) pass) state
         → Sends old (among others conn.new (L.wire link.new) result.0) result.1 }
+    ensures serves { IsServed conn.old conn.new pass result.0 }
     ensures desk { result.0.desk ≡ pass.desk }
     ensures number { result.0.worker.number ≡ pass.worker.number }
 {

@@ -5,7 +5,7 @@ ghost use Rattle.lobby_lock.specs.Passes.{pass_after};
 ghost use Rattle.lobby_holds.specs.Wire.{Wire, IsFresh};
 ghost use Rattle.lobby_holds.specs.Snapshot.{Snapshot, among, snapshot};
 ghost use Rattle.lobby_holds.specs.Holds.{Stands};
-ghost use Rattle.lobby_turns.specs.Receiving.{IsReceived, ReceivesThenDrains, share_of};
+ghost use Rattle.lobby_turns.specs.Receiving.{IsReceived, IsServed, ReceivesThenDrains, share_of};
 ghost use Rattle.lobby_turns.specs.Sending.{MaySend, Sends};
 ghost use Rattle.lobby_turns.specs.Turned.{IsUnderway, Turned, Closes};
 
@@ -180,8 +180,8 @@ impl Progress {
     }
 }
 
-/// A turn begins: its link is read, and what it gives is fed, as far as no line is to be said before. The lobby is not
-/// taken.
+/// A turn begins, and may tell so much, if there is a bound: its link is read, and what it gives is fed, as far as no
+/// line is to be said before. The lobby is not taken.
 pub fn gather<R: Wait, L: Link, G: Gate>(
     rt: &R,
     conn: &mut Conn,
@@ -189,15 +189,17 @@ pub fn gather<R: Wait, L: Link, G: Gate>(
     desk: &Desk,
     pass: Pass,
     gate: &G,
+    allowance: Option<u64>,
 ) -> (Pass, Progress)
     requires desk { pass.desk ≡ desk.now }
     requires fresh { IsFresh (L.wire link.old) }
     ensures gathers { (others : List ℕ) → IsUnderway (among others conn.old (L.wire link.old) pass)
         (among others conn.new (L.wire link.new) result.0) result.1 }
+    ensures allowance { result.1.allowance ≡ allowance }
+    ensures serves { IsServed conn.old conn.new pass result.0 }
     ensures pass { result.0 ≡ pass }
 {
     let gated = GatedDesk { desk, gate };
-    let allowance = Some(0);
     let from = Receiving::new();
     let (pass, stage) = receive(rt, conn, link, &gated, pass, allowance, from, false);
     (pass, Progress { allowance, stage })
@@ -217,6 +219,8 @@ pub fn share_hold<G: Gate>(
     ensures shares { (old : Snapshot) (wire : Wire)
         → IsUnderway old (among old.others conn.old wire (pass_after held.old)) progress
         → IsUnderway old (among old.others conn.new wire (pass_after held.new)) result }
+    ensures allowance { (result.allowance ≡ allowance) ⊎ (result.allowance ≡ progress.allowance) }
+    ensures serves { IsServed conn.old conn.new (pass_after held.old) (pass_after held.new) }
     ensures pass { held.new.pass ≡ held.old.pass }
 {
     match progress.stage {
@@ -243,6 +247,7 @@ pub fn finish<R: Wait, L: Link, G: Gate>(
     ensures turned { (old : Snapshot)
         → IsUnderway old (among old.others conn.old (L.wire link.old) pass) progress
         → Turned old (among old.others conn.new (L.wire link.new) result.0) progress.allowance result.1 result.2 }
+    ensures serves { IsServed conn.old conn.new pass result.0 }
     ensures desk { result.0.desk ≡ pass.desk }
     ensures number { result.0.worker.number ≡ pass.worker.number }
 {
@@ -280,6 +285,7 @@ fn receive_rest<R: Wait, L: Link, G: Gate>(
         → IsUnderway old (among old.others conn.old (L.wire link.old) pass) progress
         → ReceivesThenDrains old (among old.others conn.new (L.wire link.new) result.0)
         (share_of progress.allowance result.2.told) result.1 result.2.wakes result.3 }
+    ensures serves { IsServed conn.old conn.new pass result.0 }
     ensures wire { MaySend (L.wire link.new) 16 }
     ensures came { IfSome result.3 (λ piece. piece.dry ≡ false → conn.new.unwritten ≢ []) }
     ensures desk { result.0.desk ≡ pass.desk }

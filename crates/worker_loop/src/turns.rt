@@ -171,14 +171,31 @@ fn turn_within<R: Wait, G: Gate>(
     if !connections.begins_turn(key) {
         return pass;
     }
-    let written = writes_at(connections, key);
     let (pass, served) = connections.serve(rt, key, shared.desk, pass, shared.gate, allowance);
-    let Some(served) = served else {
-        return pass;
-    };
-    let writes = writes_at(connections, key).wrapping_sub(written);
+    match served {
+        Some(served) => end(rt, shared, pass, connections, registry, served),
+        None => pass,
+    }
+}
+
+/// A turn was had. Where it was refused memory and its client leaves, it goes on; then its connection goes on as the
+/// turn ended.
+fn end<R: Wait, G: Gate>(
+    rt: &R,
+    shared: &Shared<'_, G>,
+    pass: Pass,
+    connections: &mut Connections,
+    registry: &Registry,
+    served: Served,
+) -> Pass
+    requires { pass.desk ≡ shared.now.desk.now }
+    ensures desk { result.desk ≡ pass.desk }
+    ensures number { result.worker.number ≡ pass.worker.number }
+    ensures attended { (rest : List ℕ) → IsAttended connections.old (served.key ∷ rest)
+        → IsAttended connections.new rest }
+{
     let (pass, served) = go_on_if_leaving(rt, shared, pass, connections, served);
-    end_turn(shared, connections, registry, pass.number(), served, writes);
+    end_turn(shared, connections, registry, pass.number(), served);
     pass
 }
 
@@ -198,14 +215,41 @@ pub fn turn_together<R: Wait, G: Gate>(
         → IsAttended connections.new rest }
     ensures nobody { keys_in together.new ≡ [] }
 {
-    let pass = turn_all(rt, shared, pass, connections, registry, together);
+    let pass = serve_all(rt, shared, pass, connections, together);
+    let pass = finish_all(rt, shared, pass, connections, registry, together);
     together.clear();
     pass
 }
 
-/// Those whose turns share holds get them, where they are several and there is memory for that. Else each gets its turn
-/// by itself.
-fn turn_all<R: Wait, G: Gate>(
+/// They have their turns together, where they are several and there is memory for that.
+fn serve_all<R: Wait, G: Gate>(
+    rt: &R,
+    shared: &Shared<'_, G>,
+    pass: Pass,
+    connections: &mut Connections,
+    together: &mut Together,
+) -> Pass
+    requires { pass.desk ≡ shared.now.desk.now }
+    ensures desk { result.desk ≡ pass.desk }
+    ensures number { result.worker.number ≡ pass.worker.number }
+    ensures table { connections.new ≡ connections.old }
+    ensures keys { keys_in together.new ≡ keys_in together.old }
+{
+    if !share(connections, together) {
+        return pass;
+    }
+    connections.serve_together(rt, together, shared.desk, pass, shared.gate)
+}
+
+/// Whether they have their turns together: they are several, and there is memory for that.
+fn share(connections: &mut Connections, together: &Together) -> bool
+    ensures { connections.new ≡ connections.old }
+{
+    together.count() > 1 && connections.may_share()
+}
+
+/// The turn of each of them is over.
+fn finish_all<R: Wait, G: Gate>(
     rt: &R,
     shared: &Shared<'_, G>,
     pass: Pass,
@@ -219,58 +263,6 @@ fn turn_all<R: Wait, G: Gate>(
     ensures attended { (rest : List ℕ) → IsAttended connections.old (keys_in together.old ++ rest)
         → IsAttended connections.new rest }
 {
-    if !share(connections, together) {
-        return turn_each(rt, shared, pass, connections, registry, together);
-    }
-    let pass = connections.share_holds(rt, together, shared.desk, pass, shared.gate);
-    finish_all(rt, shared, pass, connections, registry, together)
-}
-
-/// Whether their turns share holds: they are several, and there is memory for that.
-fn share(connections: &mut Connections, together: &Together) -> bool
-    ensures { connections.new ≡ connections.old }
-{
-    together.count() > 1 && connections.may_share()
-}
-
-/// Each of them gets its turn by itself.
-fn turn_each<R: Wait, G: Gate>(
-    rt: &R,
-    shared: &Shared<'_, G>,
-    pass: Pass,
-    connections: &mut Connections,
-    registry: &Registry,
-    together: &Together,
-) -> Pass
-    requires { pass.desk ≡ shared.now.desk.now }
-    ensures desk { result.desk ≡ pass.desk }
-    ensures number { result.worker.number ≡ pass.worker.number }
-    ensures attended { (rest : List ℕ) → IsAttended connections.old (keys_in together.now ++ rest)
-        → IsAttended connections.new rest }
-{
-    let mut pass = pass;
-    for place in 0..together.count() {
-        let key = together.key_at(place);
-        pass = turn(rt, shared, pass, connections, registry, key);
-    }
-    pass
-}
-
-/// The turn of each of those that shared holds goes on to its end.
-fn finish_all<R: Wait, G: Gate>(
-    rt: &R,
-    shared: &Shared<'_, G>,
-    pass: Pass,
-    connections: &mut Connections,
-    registry: &Registry,
-    together: &Together,
-) -> Pass
-    requires { pass.desk ≡ shared.now.desk.now }
-    ensures desk { result.desk ≡ pass.desk }
-    ensures number { result.worker.number ≡ pass.worker.number }
-    ensures attended { (rest : List ℕ) → IsAttended connections.old (keys_in together.now ++ rest)
-        → IsAttended connections.new rest }
-{
     let mut pass = pass;
     for place in 0..together.count() {
         pass = finish(rt, shared, pass, connections, registry, together, place);
@@ -278,41 +270,30 @@ fn finish_all<R: Wait, G: Gate>(
     pass
 }
 
-/// The turn of the one in this place of those that shared holds goes on to its end.
+/// The turn of the one in this place is over, if it was had with the others. Else it gets one by itself.
 fn finish<R: Wait, G: Gate>(
     rt: &R,
     shared: &Shared<'_, G>,
     pass: Pass,
     connections: &mut Connections,
     registry: &Registry,
-    together: &Together,
+    together: &mut Together,
     place: usize,
 ) -> Pass
-    requires place { place < length (keys_in together.now) }
+    requires place { place < length (keys_in together.old) }
     requires desk { pass.desk ≡ shared.now.desk.now }
     ensures desk { result.desk ≡ pass.desk }
     ensures number { result.worker.number ≡ pass.worker.number }
+    ensures keys { keys_in together.new ≡ keys_in together.old }
     ensures attended { (rest : List ℕ)
-        → IsAttended connections.old (slice_index_or (keys_in together.now) place 0 ∷ rest)
+        → IsAttended connections.old (slice_index_or (keys_in together.old) place 0 ∷ rest)
         → IsAttended connections.new rest }
 {
-    let key = together.key_at(place);
-    let written = writes_at(connections, key);
-    let (pass, served) = connections.finish_turn(
-        rt,
-        together,
-        place,
-        shared.desk,
-        pass,
-        shared.gate,
-    );
-    let Some(served) = served else {
-        return pass;
+    let Some(served) = together.take_served(place) else {
+        let key = together.key_at(place);
+        return turn(rt, shared, pass, connections, registry, key);
     };
-    let writes = writes_at(connections, key).wrapping_sub(written);
-    let (pass, served) = go_on_if_leaving(rt, shared, pass, connections, served);
-    end_turn(shared, connections, registry, pass.number(), served, writes);
-    pass
+    end(rt, shared, pass, connections, registry, served)
 }
 
 /// A connection of which a poll told joins those whose turns share holds, if it is to get a turn and is not put off;
@@ -358,14 +339,6 @@ fn join(connections: &mut Connections, key: usize, together: &mut Together)
     together.join(key);
 }
 
-/// How many writes the link of the connection under a key made.
-fn writes_at(connections: &Connections, key: usize) -> u64 {
-    match connections.at(key) {
-        Some(connection) => connection.link.writes(),
-        None => 0,
-    }
-}
-
 /// A turn was made. Where it was refused memory, operators are told, and one whose client leaves goes on.
 fn go_on_if_leaving<R: Wait, G: Gate>(
     rt: &R,
@@ -395,20 +368,19 @@ fn go_on_if_leaving<R: Wait, G: Gate>(
     }
 }
 
-/// A turn is over, in which so many writes were made: its connection goes on as it ended. Whose clients it touched is
-/// noted: the others are woken before this worker waits, and this one, which is that of this home, asks for names.
+/// A turn is over: its connection goes on as it ended. Whose clients it touched is noted: the others are woken before
+/// this worker waits, and this one, which is that of this home, asks for names.
 fn end_turn<G: Gate>(
     shared: &Shared<'_, G>,
     connections: &mut Connections,
     registry: &Registry,
     home: u8,
     served: Served,
-    writes: u64,
 )
     requires { home < WORKERS }
     ensures { (rest : List ℕ) → IsAttended connections.old (served.key ∷ rest) → IsAttended connections.new rest }
 {
-    let (state, told) = (served.state(), served.told());
+    let (state, told, writes) = (served.state(), served.told(), served.writes());
     if let Some(connection) = connections.at(served.key()) {
         tell_logout(shared.gate, connection, state, Cause::Closed);
     }

@@ -1,6 +1,4 @@
 use Rattle.std.proofs.Common.{arith, ap, ◌∙◌, inl, inr, Some}
-use Rattle.lobby_turns.specs.declared.receiving.ReceiveState.TheVariants as receive
-use Rattle.lobby_turns.specs.declared.receiving.Step.TheVariants as step
 use Rattle.lobby_holds.specs.Wire.{got_count}
 use Rattle.lobby_turns.proofs.Receivings.{read_bytes, fits, only_one, gave_may, link_dry, link_read, link_fault}
 use Rattle.lobby_turns.proofs.receiving.look_ahead.Goals as goal

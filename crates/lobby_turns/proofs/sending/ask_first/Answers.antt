@@ -1,4 +1,4 @@
-use Rattle.std.proofs.Common.{◌∙◌, [], true, false, refl, sym, subst, true≢false}
+use Rattle.std.proofs.Common.{◌∙◌, [], refl, sym, subst, true≢false}
 use Rattle.lobby_holds.specs.Snapshot.{among}
 use Rattle.lobby_holds.specs.Wire.{untouched}
 use Rattle.lobby_holds.specs.Holds.{Asks}

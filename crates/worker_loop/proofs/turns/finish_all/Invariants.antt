@@ -7,4 +7,5 @@ abbrev pub invariant-loop-place : goal.invariant-loop-place
 invariant-loop-place g l =
     (l.pass.desk ≡ l.fn.pass.desk)
     × (l.pass.worker.number ≡ l.fn.pass.worker.number)
-    × ((rest : List ℕ) → IsAttended l.fn.connections (keys_in l.together ++ rest) → IsAttended l.connections (drop l.place (keys_in l.together) ++ rest))
+    × (keys_in l.together ≡ keys_in l.fn.together)
+    × ((rest : List ℕ) → IsAttended l.fn.connections (keys_in l.fn.together ++ rest) → IsAttended l.connections (drop l.place (keys_in l.fn.together) ++ rest))
