@@ -184,16 +184,17 @@ static uint64_t bytes_of_all(void) {
 static void await(const struct client *client, const char *words) {
     char bytes[READ_BYTES + 1];
     size_t held = 0;
-    do {
+    for (;;) {
         ssize_t length = read(client->socket, bytes + held, READ_BYTES - held);
         if (length <= 0) fail("client %u was closed", (unsigned)(client - clients) + 1);
         held += (size_t)length;
         bytes[held] = '\0';
+        if (strstr(bytes, words) != NULL) return;
         if (held > READ_BYTES / 2) {
             memmove(bytes, bytes + held - 100, 101);
             held = 100;
         }
-    } while (strstr(bytes, words) == NULL);
+    }
 }
 
 static void connect_all(int port) {
