@@ -57,7 +57,12 @@ impl Model for Served {
 impl Served {
     /// The turn of the connection under a key, which came to this.
     pub(crate) fn new(key: usize, ended: Ended) -> Served
-        ensures { result.key ≡ key }
+        ensures { result ≡ record {
+          key = key;
+          state = ended.turn.state;
+          wakes = ended.turn.wakes;
+          told = ended.told;
+        } }
     {
         Served { key, ended }
     }

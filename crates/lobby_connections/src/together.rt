@@ -33,7 +33,9 @@ pub struct Together {
 
 impl Together {
     ghost use Rattle.std.specs.Prelude.{◌≡◌, ◌<◌, ◌∷◌, ◌++◌, ℕ, [], false, length, slice_index_or, slice_set, IfSome};
+    ghost use Rattle.std.specs.Prelude.{Some, None};
     ghost use Rattle.lobby_connections.specs.Joined.{keys_in};
+    ghost use Rattle.lobby_connections.specs.Had.{Had};
     ghost use Rattle.lobby_connections.specs.Shared.{IsOver};
 
     /// Nobody.
@@ -84,6 +86,10 @@ impl Together {
     pub fn take_served(&mut self, place: usize) -> Option<Served>
         requires { place < length (keys_in self.old) }
         ensures key { IfSome result (λ had. had.key ≡ slice_index_or (keys_in self.old) place 0) }
+        ensures served { (ended : Ended) → slice_index_or self.old.standings place Standing.Waits ≡ Standing.Over ended
+            → (had : Had) × (result ≡ Some had) × (had.state ≡ ended.turn.state) × (had.wakes ≡ ended.turn.wakes)
+            × (had.told ≡ ended.told) }
+        ensures none { (IsOver (slice_index_or self.old.standings place Standing.Waits) → ⊥) → result ≡ None }
         ensures taken { IsOver (slice_index_or self.new.standings place Standing.Waits) → ⊥ }
         ensures keys { keys_in self.new ≡ keys_in self.old }
     {
